@@ -1,7 +1,7 @@
 -- The worked program, wherever it is placed: turn by turn.
 use Rattle.asm8080.proofs.Prelude.{◌≡◌, ℕ, suc, ◌+◌, ◌-◌, ◌%◌, ◌<◌, ◌≤◌, ◌⊎◌, inl, inr, true, false, List, [], ◌∷◌, length, slice_set, refl, sym, subst, ap, ◌∙◌, arith, length-set, MEMORY_SIZE, byte_at, IsIn, Event, InSegment, Code, Stack, Dcr, Hlt, Inr, Lxi, Mvi, Ret, Of, A, B, Sp, NotZero, Registers, State, high_byte, holds, low_byte, wrap, Item, Plain, WithWord, Mark, AtLabel, CallTo, JumpWhere, layout_at, Layout, Stands, Comes, Keeps, below, wrap_of_place}
 use Rattle.asm8080.proofs.RunLaws.{comes_on}
-use Rattle.asm8080.specs.Example.{CountsAnywhere, Ends, counting, counting_code}
+use Rattle.asm8080.specs.internal.Example.{CountsAnywhere, Ends, counting, counting_code}
 use Rattle.asm8080.proofs.Steps.{at, runs_from_instruction, goes_past, jumps_where, step_is, step_then}
 use Rattle.asm8080.proofs.Spending.{halted_at, hlt_halts, same_after}
 use Rattle.asm8080.proofs.Straight.{does_to, straight}

@@ -4,4 +4,3 @@ pub mod Items
 pub mod Assembled
 pub mod Numbers
 pub mod internal
-pub mod Example

@@ -1,4 +1,2 @@
 pub mod Chains
-pub mod Needs
-pub mod Views
 pub mod internal

@@ -1,9 +1,9 @@
 //! The search for the needs of bodies.
 
 ghost use Rattle.std.specs.Prelude.{◌≡◌, map, slice_set, IfOk};
-ghost use Rattle.call_graphs.specs.Views.{body_view};
+ghost use Rattle.call_graphs.specs.internal.Views.{body_view};
 ghost use Rattle.call_graphs.specs.internal.Search.{mark_of};
-ghost use Rattle.call_graphs.specs.Needs.{Answers};
+ghost use Rattle.call_graphs.specs.internal.Needs.{Answers};
 
 use crate::body::Body;
 use crate::path::{Path, Visit};
@@ -55,7 +55,7 @@ pub(crate) struct Search<'a> {
 impl<'a> Search<'a> {
     ghost use Rattle.std.specs.Prelude.{◌≡◌, ◌<◌, [], ◌∷◌, length, map, replicate, slice_get, Some, IfOk, IfSome, OnOk};
     ghost use Rattle.call_graphs.specs.Chains.{callees_of};
-    ghost use Rattle.call_graphs.specs.Views.{body_view};
+    ghost use Rattle.call_graphs.specs.internal.Views.{body_view};
     ghost use Rattle.call_graphs.specs.internal.Search.{begun, called, finished, graph_view, mark_of, need_shown, passed, search_view, stepped};
     ghost use Rattle.call_graphs.specs.internal.Searching.{Finds, IsTrueOf};
 

@@ -1,6 +1,6 @@
 -- HLT where the source ends.
 use Rattle.code_meaning.proofs.Prelude.{ℕ, List, ◌∷◌, refl, SourceState, Ended, Stopped, Registers, State, Hlt, Item, Plain, Activation, IsReady, IsThere, LiesWell, Does, IsHalted, at_place}
-use Rattle.code_meaning.specs.Activations.{loaded_of}
+use Rattle.code_meaning.specs.internal.Activations.{loaded_of}
 use Rattle.code_meaning.proofs.Landing.{after_step, landed}
 use Rattle.code_meaning.proofs.FirstItems.{plain_step}
 

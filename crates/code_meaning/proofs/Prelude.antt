@@ -8,9 +8,9 @@ pub use Rattle.isa8080.specs.{Act.{act, jump, push, return, with_registers}, Ari
 unfoldable pub use Rattle.isa8080.specs.Step.{state_after, step_of}
 pub use Rattle.asm8080.proofs.{Calls.{IsPushed, one_below, pushed, pushed_is_memory, pushed_is_pushed, pushed_keeps, two_below}, FirstItems.{plain_item_step, word_item_step}, Kept.{byte_kept, byte_put, memory_put, stands_in, stands_size}, RunLaws.{comes_on}, Spending.{same_after}, Steps.{step_then}}
 pub use Rattle.asm8080.specs.{Items.{Layout, Stands, instruction_with, size_of, size_of_items, word_of}, Runs.{Comes}, Standing.{AgreesIn, Keeps, size_of_instruction}, declared.item.Item.{Item, TheVariants.{Address, Byte, Gap, Mark, Plain, WithWord}}, declared.item.Reference.{Reference, TheVariants.{AtLabel}}, declared.item.WordForm.{WordForm, TheVariants.{CallTo, CallWhere, Jump, JumpWhere, LoadA, LoadHl, LoadPair, StoreA, StoreHl}}}
-pub use Rattle.treecode.specs.{Homes.{location_after, place_after}, declared.place.Location.{Location, TheVariants.{Frame, Static}}, declared.place.Place.{Place, TheVariants.{Code, Data, External, Number}}}
-pub use Rattle.steps8080.specs.{Facts.{after, after_operation_with, after_word, before, byte_for_l, byte_from_hl, holds_byte, is_at, no_facts, same_location, same_place, with_facts, without_a, without_hl, without_memory, without_register, without_zero}, Instructions.{copy, load}, declared.facts.Facts.{Facts}}
-pub use Rattle.code_meaning.specs.Activations.{Activation, FrameLies, IsMine, IsReady, IsThere, IsVariable, LiesWell, Loaded, MayChange, Owns, PlacementLies, Shares}
-pub use Rattle.code_meaning.specs.Asking.{AddressAsks, Asks, IsSteadyByte, PushAsks, WordAsks}
-pub use Rattle.code_meaning.specs.Holding.{AddressHolds, AllHold, ByteHolds, Distances, FactsHold, IsByteAt, IsSteady, IsWordAt, WordHolds, ZeroHolds, location_at, place_at}
+pub use Rattle.treecode.specs.{internal.Homes.{location_after, place_after}, declared.place.Location.{Location, TheVariants.{Frame, Static}}, declared.place.Place.{Place, TheVariants.{Code, Data, External, Number}}}
+pub use Rattle.steps8080.specs.{internal.Facts.{after, after_operation_with, after_word, before, byte_for_l, byte_from_hl, holds_byte, is_at, no_facts, same_location, same_place, with_facts, without_a, without_hl, without_memory, without_register, without_zero}, internal.Instructions.{copy, load}, declared.facts.Facts.{Facts}}
+pub use Rattle.code_meaning.specs.internal.Activations.{Activation, FrameLies, IsMine, IsReady, IsThere, IsVariable, LiesWell, Loaded, MayChange, Owns, PlacementLies, Shares}
+pub use Rattle.code_meaning.specs.internal.Asking.{AddressAsks, Asks, IsSteadyByte, PushAsks, WordAsks}
+pub use Rattle.code_meaning.specs.internal.Holding.{AddressHolds, AllHold, ByteHolds, Distances, FactsHold, IsByteAt, IsSteady, IsWordAt, WordHolds, ZeroHolds, location_at, place_at}
 pub use Rattle.code_meaning.specs.Landing.{Does, IsHalted, IsLeft, Lands, Told, at_place}

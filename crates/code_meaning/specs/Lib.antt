@@ -1,6 +1,3 @@
 pub mod Sharing
 pub mod Landing
-pub mod Activations
-pub mod Computing
-pub mod Holding
-pub mod Asking
+pub mod internal

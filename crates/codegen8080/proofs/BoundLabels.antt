@@ -4,21 +4,21 @@ use Rattle.typed_trees.specs.TypedTrees.{TypedList, TypedStatement, TypedStateme
 use Rattle.typed_trees.specs.Jumps.{labels_in, labels_in_list, labels_in_statements}
 use Rattle.layout.specs.Storage.{Storage}
 use Rattle.asm8080.specs.Items.{BoundOnce, is_bound}
-use Rattle.treecode.specs.Lowered.{AreMoreStatements, AreNoStatements, AreStatements, IsList, IsListOf, IsStatement, IsStatementNode, IsStatementForm}
-use Rattle.treecode.specs.Nodes.{Nodes, nodes_of}
-use Rattle.treecode.specs.Rising.{NumbersRise}
+use Rattle.treecode.specs.internal.Lowered.{AreMoreStatements, AreNoStatements, AreStatements, IsList, IsListOf, IsStatement, IsStatementNode, IsStatementForm}
+use Rattle.treecode.specs.internal.Nodes.{Nodes, nodes_of}
+use Rattle.treecode.specs.internal.Rising.{NumbersRise}
 use Rattle.treecode.specs.declared.place.Location.{Location}
 use Rattle.treecode.specs.declared.place.Location.TheVariants.{Static, Frame}
 use Rattle.treecode.specs.declared.reference.Reference.{Reference}
 use Rattle.steps8080.proofs.{Binding.{bound_in, once_both}, Numbered.{not_both}}
 use Rattle.asm8080.specs.declared.item.WordForm.TheVariants.{LoadA, LoadHl}
 use Rattle.treecode.specs.declared.place.Place.{Place}
-use Rattle.steps8080.specs.Facts.{is_at}
-unfoldable use Rattle.steps8080.specs.Queries.{location_of}
+use Rattle.steps8080.specs.internal.Facts.{is_at}
+unfoldable use Rattle.steps8080.specs.internal.Queries.{location_of}
 use Rattle.steps8080.specs.declared.step.Step.{Step}
 use Rattle.steps8080.specs.declared.step.Step.TheVariants as steps
-use Rattle.statements8080.specs.Bodies.{body_label}
-use Rattle.statements8080.specs.Plans.{mark}
+use Rattle.statements8080.specs.internal.Bodies.{body_label}
+use Rattle.statements8080.specs.internal.Plans.{mark}
 use Rattle.statements8080.specs.declared.plan.Planned.TheVariants as planned
 use Rattle.exprgen8080.proofs.Marked.{StepsBound, steps_bound, steps_rise}
 use Rattle.exprgen8080.specs.internal.Marks.{Differ, IsIn, marks_of}

@@ -8,15 +8,15 @@ use Rattle.asm8080.specs.declared.item.Item.TheVariants as items
 use Rattle.layout.specs.Storage.{Storage}
 use Rattle.typed_trees.specs.Jumps.{JumpsAreSound, labels_in_list, labels_in_module, labels_in_procedure}
 use Rattle.typed_trees.specs.TypedTrees.{TypedModule, TypedProcedure}
-use Rattle.treecode.specs.Lowered.{HasBody, IsList, IsLowered, labels_numbered_in_list}
-use Rattle.treecode.specs.Nodes.{nodes_of}
-use Rattle.treecode.specs.Rising.{NumbersRise}
+use Rattle.treecode.specs.internal.Lowered.{HasBody, IsList, IsLowered, labels_numbered_in_list}
+use Rattle.treecode.specs.internal.Nodes.{nodes_of}
+use Rattle.treecode.specs.internal.Rising.{NumbersRise}
 use Rattle.treecode.specs.declared.module.Content.TheVariants as contents
 use Rattle.treecode.specs.declared.place.Place.{Place}
 use Rattle.treecode.specs.declared.place.Place.TheVariants as places
 use Rattle.treecode.specs.declared.procedure.ProcedureKind.TheVariants as kinds
 use Rattle.steps8080.proofs.{Binding.{bound_in, once_both, true_of}, Numbered.{false_by, not_both}}
-use Rattle.statements8080.specs.Bodies.{body_label}
+use Rattle.statements8080.specs.internal.Bodies.{body_label}
 use Rattle.exprgen8080.specs.internal.Emission.{first_label}
 use Rattle.exprgen8080.specs.internal.Marks.{Differ, IsIn}
 use Rattle.codegen8080.specs.internal.Modules.{AreCodeOf, AreProceduresLabelled, IsCodeLabelled, IsCodeOf, IsCodeOfMain, IsCodeOfMainLabelled, IsEndCode, IsEndLabelled, IsOwnLabelled}

@@ -1,6 +1,6 @@
 -- The code of statements as it is written step by step.
 use Rattle.codegen8080.proofs.Prelude.{◌≡◌, ℕ, suc, ◌+◌, ◌-◌, ◌≤◌, ◌<◌, inl, Bool, true, List, [], ◌++◌, length, Option, Some, None, Result, Ok, Err, OnOk, slice_get, drop, refl, sym, ap, subst, ◌∙◌, arith, append_assoc, append-nil, drop_at, drop_all, IfOk, Item, Range, TreeStatement, StatementNumber, Facts, Step, label_after, Writes, writes_nothing, writes_then, Site, Emission, knowing, EmitsSteps, HasAll, NotesCalled, are_kept, are_labels_kept, emits_then, has_itself, none_is, notes_then, Body, Planned, Generator, Here, AddsList, AddsPlanned, AddsStatement, AddsStep, here_of, AreAllCarriedOut, AreCarriedOut, HoldsNoStatement, IsCarriedOut, IsListCarriedOut, ListCarriedOut, ListPlanned, MoreStatements, NoStatements, NoneCarriedOut, StatementCarriedOut, StatementPlanned, StepCarriedOut, carried_steps, here_after, site_of, waiting_after, AreAllLabelled, AreStepsLabelled, IsListLabelled, IsStatementLabelled, LabelledList, LabelledStatement, LabelledStatements, LabelledSteps, statement_labels, statement_steps, CarriesOut, drop_found}
-use Rattle.treecode.specs.Nodes.{nodes_of}
+use Rattle.treecode.specs.internal.Nodes.{nodes_of}
 use Rattle.statements8080.specs.declared.plan.Planned.TheVariants as planned
 use Rattle.codegen8080.specs.internal.Standing.{StepsStand}
 use Rattle.codegen8080.proofs.Standing.{step_there}

@@ -4,7 +4,7 @@ use Rattle.std.specs.Prelude.{◌/◌, ◌%◌, nat_eq, nat_le, replicate}
 use Rattle.isa8080.specs.declared.instr.Instr.TheVariants.{Push}
 use Rattle.isa8080.specs.declared.instr.StackPair.TheVariants.{StackDe}
 use Rattle.layout.specs.Storage.{Storage}
-use Rattle.treecode.specs.Nodes.{Nodes, nodes_of}
+use Rattle.treecode.specs.internal.Nodes.{Nodes, nodes_of}
 use Rattle.treecode.specs.declared.procedure.ProcedureKind.TheVariants as kinds
 use Rattle.codegen8080.specs.declared.procedures.TheConstants.{PUSHED_WORDS}
 unfoldable use Rattle.codegen8080.specs.internal.Procedures.{entry_labels_by, entry_steps_by, frame_entry_steps, pushes_labels, pushes_steps, zeros_labels, zeros_steps}

@@ -11,18 +11,18 @@ use Rattle.layout.specs.Storage.{Storage}
 use Rattle.treecode.specs.declared.expression.ExpressionNumber.{ExpressionNumber}
 use Rattle.treecode.specs.declared.reference.Target.TheVariants.{Stored}
 use Rattle.treecode.specs.declared.statement.Iteration.{Iteration}
-use Rattle.treecode.specs.Lowered.{AreMoreStatements, AreNoStatements, AreStatements, IsAssignment, IsCall, IsCase, IsDo, IsElse, IsGoto, IsHalt, IsIf, IsIterate, IsLabel, IsList, IsListOf, IsMove, IsNoElse, IsNull, IsReturn, IsSomeElse, IsStatement, IsStatementForm, IsWhile}
-use Rattle.treecode.specs.Nodes.{Nodes, nodes_of}
-use Rattle.treecode.specs.Queries.{item}
-unfoldable use Rattle.steps8080.specs.Queries.{number}
-use Rattle.steps8080.specs.Site.{scalar}
+use Rattle.treecode.specs.internal.Lowered.{AreMoreStatements, AreNoStatements, AreStatements, IsAssignment, IsCall, IsCase, IsDo, IsElse, IsGoto, IsHalt, IsIf, IsIterate, IsLabel, IsList, IsListOf, IsMove, IsNoElse, IsNull, IsReturn, IsSomeElse, IsStatement, IsStatementForm, IsWhile}
+use Rattle.treecode.specs.internal.Nodes.{Nodes, nodes_of}
+use Rattle.treecode.specs.internal.Queries.{item}
+unfoldable use Rattle.steps8080.specs.internal.Queries.{number}
+use Rattle.steps8080.specs.internal.Site.{scalar}
 use Rattle.steps8080.specs.declared.step.Step.TheVariants as steps
 use Rattle.statements8080.specs.declared.plan.Planned.TheVariants as planned
 use Rattle.statements8080.specs.declared.bound.Test.{Test}
 use Rattle.statements8080.specs.declared.iteration.Counter.{Counter}
-use Rattle.statements8080.specs.Bodies.{body_label}
-use Rattle.statements8080.specs.Counters.{counter_of, counts_by_one, has_a_turn}
-use Rattle.statements8080.specs.Plans.{label_at, mark, nth_label, steps_from}
+use Rattle.statements8080.specs.internal.Bodies.{body_label}
+use Rattle.statements8080.specs.internal.Counters.{counter_of, counts_by_one, has_a_turn}
+use Rattle.statements8080.specs.internal.Plans.{label_at, mark, nth_label, steps_from}
 use Rattle.statements8080.specs.internal.Branches.{computed_if_labels, computed_if_steps, either_labels, either_steps, goto_label, if_labels, if_steps, statement_if_any, tested_if_labels, tested_if_steps, while_labels, while_steps}
 use Rattle.statements8080.specs.internal.Cases.{case_labels, case_steps, choice_labels, entry_of, statement_at}
 unfoldable use Rattle.statements8080.specs.internal.Cases.{cases_end_steps, choice_at_steps, into_table_steps, number_in_de_steps, statements_steps, table_at, table_steps}

@@ -2,7 +2,7 @@
 use Rattle.codegen8080.proofs.Prelude.{◌≡◌, ℕ, zero, suc, ◌<◌, List, [], ◌∷◌, length, Some, Result, Ok, Err, IfOk, slice_get, slice_get_within, refl, arith, TreeModule}
 use Rattle.typed_trees.specs.TypedTrees.{TypedModule}
 use Rattle.layout.specs.Storage.{Storage}
-use Rattle.treecode.specs.Lowered.{IsLowered}
+use Rattle.treecode.specs.internal.Lowered.{IsLowered}
 use Rattle.codegen8080.proofs.Standing.{list_stands}
 use Rattle.typed_trees.specs.Jumps.{JumpsAreSound}
 use Rattle.codegen8080.specs.internal.Sources.{IsOfModule}

@@ -4,7 +4,7 @@ use Rattle.std.proofs.Common.{◌==◌, ◌≤◌, ◌⊎◌}
 use Rattle.std.proofs.lemmas.Bool.{eqb-true}
 use Rattle.asm8080.specs.Items.{is_bound}
 use Rattle.steps8080.proofs.{Binding.{true_of}, Numbered.{false_by, not_both}}
-use Rattle.steps8080.specs.Writer.{AreWritable, is_marked, numbered}
+use Rattle.steps8080.specs.internal.Writer.{AreWritable, is_marked, numbered}
 use Rattle.exprgen8080.specs.internal.Emission.{module_label_of_routine}
 use Rattle.codegen8080.specs.internal.Bodies.{AreFree, IsLabelOf}
 use Rattle.codegen8080.specs.internal.Sources.{IsOfModule}

@@ -17,20 +17,20 @@ use Rattle.treecode.specs.declared.reference.Target.{Target}
 use Rattle.treecode.specs.declared.reference.Target.TheVariants.{Sent, Stored}
 use Rattle.treecode.specs.declared.statement.Iteration.{Iteration}
 use Rattle.treecode.specs.declared.statement.Statement.TheVariants as statements
-use Rattle.treecode.specs.Lowered.{IsAssignment, IsCall, IsCase, IsDo, IsElse, IsGoto, IsHalt, IsIf, IsIterate, IsLabel, IsMove, IsNoElse, IsNull, IsReturn, IsSomeElse, IsStatementForm, IsWhile}
-use Rattle.treecode.specs.Nodes.{Nodes, nodes_of}
-use Rattle.treecode.specs.Queries.{item, source, target as target_at}
-unfoldable use Rattle.steps8080.specs.Queries.{keeps, known, location_of, number}
-use Rattle.steps8080.specs.Site.{scalar}
-use Rattle.steps8080.specs.Step.{label_of}
+use Rattle.treecode.specs.internal.Lowered.{IsAssignment, IsCall, IsCase, IsDo, IsElse, IsGoto, IsHalt, IsIf, IsIterate, IsLabel, IsMove, IsNoElse, IsNull, IsReturn, IsSomeElse, IsStatementForm, IsWhile}
+use Rattle.treecode.specs.internal.Nodes.{Nodes, nodes_of}
+use Rattle.treecode.specs.internal.Queries.{item, source, target as target_at}
+unfoldable use Rattle.steps8080.specs.internal.Queries.{keeps, known, location_of, number}
+use Rattle.steps8080.specs.internal.Site.{scalar}
+use Rattle.steps8080.specs.internal.Step.{label_of}
 use Rattle.statements8080.specs.declared.plan.Planned.TheVariants as planned
 use Rattle.statements8080.specs.declared.bound.Test.{Test}
 use Rattle.statements8080.specs.declared.bound.Test.TheVariants as tests
 use Rattle.statements8080.specs.declared.iteration.Counter.{Counter}
 use Rattle.codegen8080.specs.declared.procedures.TheConstants.{PUSHED_WORDS}
-use Rattle.statements8080.specs.Bodies.{is_near}
-use Rattle.statements8080.specs.Counters.{counter_of, counter_place, counts_by_one, has_a_turn}
-use Rattle.statements8080.specs.Plans.{nth_label}
+use Rattle.statements8080.specs.internal.Bodies.{is_near}
+use Rattle.statements8080.specs.internal.Counters.{counter_of, counter_place, counts_by_one, has_a_turn}
+use Rattle.statements8080.specs.internal.Plans.{nth_label}
 use Rattle.statements8080.specs.internal.Assignments.{any_target, assignment_steps, byte_steps, count_of, each_at, each_steps, is_address_first, other_word_steps, several_by, single_steps, store_at, takes_byte, takes_word, together_steps, types_by, value_steps, word_steps}
 use Rattle.statements8080.specs.internal.Branches.{computed_if_steps, goto_label, if_steps, statement_if_any, while_steps}
 use Rattle.statements8080.specs.internal.Cases.{case_steps, statement_at}

@@ -8,15 +8,15 @@ pub use Rattle.object_modules.specs.{Module.{Fixup, ObjectModule, Places, Public
 pub use Rattle.isa8080.specs.{Code.{bytes_of}, State.{high_byte, low_byte, wrap}, declared.instr.Instr.{Instr, TheVariants.{Hlt}}, declared.instr.Pair.TheVariants.{Sp}}
 pub use Rattle.asm8080.proofs.{CodeInParts.{stands_in_parts}, Segments.{places_length, runs_longest, segment_places_in, set_length, set_well, valid_bytes}}
 pub use Rattle.asm8080.specs.{Assembled.{Assembled, Assembles, FitsSegment, IsFinished, fixed_bytes, places_of, segment_of, set_bytes}, Items.{Assembly, Layout, Stands, instruction_with, size_of_items, word_of}, Standing.{BytesStand}, declared.fault.Fault.{Fault as CodeFault}, declared.item.Item.{Item, TheVariants.{Address, Byte, Gap, Mark, Plain, WithWord}}, declared.item.Reference.{Reference, TheVariants.{AtLabel, AtNumber, AtTarget}}, declared.item.WordForm.TheVariants.{LoadPair}}
-pub use Rattle.runtime8080.specs.{Routines.{IsRoutine, size_of_routine}, declared.routine.Routine.{Routine, TheVariants.{Divide, Move, Multiply, RotateLeft, RotateRight, ShiftLeftAddress, ShiftLeftByte, ShiftRightAddress, ShiftRightByte}}}
+pub use Rattle.runtime8080.specs.{internal.Routines.{IsRoutine, size_of_routine}, declared.routine.Routine.{Routine, TheVariants.{Divide, Move, Multiply, RotateLeft, RotateRight, ShiftLeftAddress, ShiftLeftByte, ShiftRightAddress, ShiftRightByte}}}
 pub use Rattle.treecode.specs.{declared.lists.Range.{Range}, declared.module.Content.{Content}, declared.module.ExternalName.{ExternalName}, declared.module.PublicName.{PublicName}, declared.module.PublicPlace.{PublicPlace, TheVariants.{Object, Procedure}}, declared.module.TreeModule.{TreeModule}, declared.procedure.Parameter.{Parameter}, declared.procedure.ProcedureKind.{ProcedureKind}, declared.procedure.TreeProcedure.{TreeProcedure}, declared.statement.Statement.{Statement, Statement as TreeStatement}, declared.statement.StatementNumber.{StatementNumber}}
-pub use Rattle.frames.specs.{Frames.{HasFrame, HasNothing, IsPlanOf, LiesApart}, declared.frame_plan.FramePlan.{FramePlan}}
+pub use Rattle.frames.specs.{internal.Frames.{HasFrame, HasNothing, IsPlanOf, LiesApart}, declared.frame_plan.FramePlan.{FramePlan}}
 pub use Rattle.steps8080.proofs.Numbered.{items_stay, nothing_there, use_either, writes_nothing, writes_then}
-pub use Rattle.steps8080.specs.{Externals.{AreDifferent, Extends, IsNumbering, entries, entry}, Facts.{no_facts}, Step.{label_after, label_of}, Writer.{Finishes, NumbersNames, Writes, Written, in_front, known_label, numbered, numbered_item, numbered_reference, place_of_known, place_of_label, stack_end_item}, declared.facts.Facts.{Facts}, declared.sites.site.Site.{Site}, declared.step.LabelNumber.{LabelNumber}, declared.step.Step.{Step}, declared.step.Step.TheVariants.{Holds}}
+pub use Rattle.steps8080.specs.{internal.Externals.{AreDifferent, Extends, IsNumbering, entries, entry}, internal.Facts.{no_facts}, internal.Step.{label_after, label_of}, internal.Writer.{Finishes, NumbersNames, Writes, Written, in_front, known_label, numbered, numbered_item, numbered_reference, place_of_known, place_of_label, stack_end_item}, declared.facts.Facts.{Facts}, declared.sites.site.Site.{Site}, declared.step.LabelNumber.{LabelNumber}, declared.step.Step.{Step}, declared.step.Step.TheVariants.{Holds}}
 pub use Rattle.exprgen8080.proofs.{CodeLaws.{found_deeper, found_map, found_then, steps_are_code}, Emitting.{are_kept, are_labels_kept, emits_then, has_itself, none_is, none_noted, notes_then}}
 pub use Rattle.exprgen8080.specs.{internal.Code.{IsFoundDeep}, internal.Emission.{AreWritten, MarkWritten, NoneWritten, PlainWritten, call_routine, has_routine, index_of_routine, knowing, module_label_of_routine, module_routine_label}, internal.Emitted.{EmitsSteps, HasAll, IsEmpty, NotesCalled}, internal.Labelled.{AreLabelled}, declared.emission.Emission.{Emission}}
 unfoldable pub use Rattle.exprgen8080.specs.internal.Code.{code_of_part, code_of_steps}
-pub use Rattle.statements8080.specs.{Plans.{PlanAdds, PlanAddsWithLabels}, declared.body.Body.{Body}, declared.plan.Plan.{Plan}, declared.plan.Planned.{Planned}, internal.Adding.{IsAdding}}
+pub use Rattle.statements8080.specs.{internal.Plans.{PlanAdds, PlanAddsWithLabels}, declared.body.Body.{Body}, declared.plan.Plan.{Plan}, declared.plan.Planned.{Planned}, internal.Adding.{IsAdding}}
 pub use Rattle.codegen8080.specs.internal.Driven.{AddsCode, AddsList, AddsPlanned, AddsStatement, AddsStep, here_of}
 pub use Rattle.codegen8080.specs.internal.Generated.{AreAllCarriedOut, AreCarriedOut, HoldsNoStatement, IsCarriedOut, IsListCarriedOut, ListCarriedOut, ListPlanned, MoreStatements, NoStatements, NoneCarriedOut, StatementCarriedOut, StatementPlanned, StepCarriedOut, arriving, site_of}
 unfoldable pub use Rattle.codegen8080.specs.internal.Generated.{carried_steps, here_after, waiting_after}

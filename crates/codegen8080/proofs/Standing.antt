@@ -4,10 +4,10 @@ use Rattle.std.specs.Prelude.{is_some}
 use Rattle.std.proofs.lemmas.Bool.{ltb-true}
 use Rattle.typed_trees.specs.TypedTrees.{TypedList, TypedStatement, TypedStatements}
 use Rattle.layout.specs.Storage.{Storage}
-use Rattle.treecode.specs.Lowered.{AreStatements, AreMoreStatements, AreNoStatements, IsList, IsListOf, IsStatement, IsStatementNode}
-use Rattle.treecode.specs.Nodes.{Nodes, item_of}
+use Rattle.treecode.specs.internal.Lowered.{AreStatements, AreMoreStatements, AreNoStatements, IsList, IsListOf, IsStatement, IsStatementNode}
+use Rattle.treecode.specs.internal.Nodes.{Nodes, item_of}
 use Rattle.statements8080.specs.declared.plan.Planned.TheVariants as planned
-use Rattle.statements8080.specs.Plans.{all, plain, steps_from}
+use Rattle.statements8080.specs.internal.Plans.{all, plain, steps_from}
 use Rattle.codegen8080.specs.internal.Standing.{FormStands, ListStands, MoreStand, NoneStand, StatementStands, StepStands, StepsStand}
 
 -- a step that is neither a statement nor a list

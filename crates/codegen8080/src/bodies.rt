@@ -1,9 +1,9 @@
 //! The code of procedures and of the main program.
 
 ghost use Rattle.std.specs.Prelude.{◌≡◌, ◌++◌, IfOk, OnOk};
-ghost use Rattle.treecode.specs.Nodes.{nodes_of};
-ghost use Rattle.treecode.specs.Rising.{NumbersRise};
-ghost use Rattle.steps8080.specs.Step.{label_after, label_of};
+ghost use Rattle.treecode.specs.internal.Nodes.{nodes_of};
+ghost use Rattle.treecode.specs.internal.Rising.{NumbersRise};
+ghost use Rattle.steps8080.specs.internal.Step.{label_after, label_of};
 ghost use Rattle.codegen8080.specs.internal.Modules.{IsFrameOf};
 ghost use Rattle.codegen8080.specs.internal.Standing.{BodyStands};
 ghost use Rattle.codegen8080.specs.internal.Procedures.{entry_labels, entry_steps};

@@ -1,11 +1,11 @@
 //! Emission of planned steps that hold no statement.
 
 ghost use Rattle.std.specs.Prelude.{◌≡◌, ◌∷◌, ◌++◌, [], OnOk};
-ghost use Rattle.treecode.specs.Nodes.{nodes_of};
-ghost use Rattle.treecode.specs.Rising.{NumbersRise};
+ghost use Rattle.treecode.specs.internal.Nodes.{nodes_of};
+ghost use Rattle.treecode.specs.internal.Rising.{NumbersRise};
 ghost use Rattle.steps8080.specs.declared.step.Step.TheVariants.{Holds, Mark};
 ghost use Rattle.steps8080.specs.declared.step.Task.TheVariants as tasks;
-ghost use Rattle.steps8080.specs.Step.{part};
+ghost use Rattle.steps8080.specs.internal.Step.{part};
 ghost use Rattle.exprgen8080.specs.internal.Emission.{knowing};
 ghost use Rattle.exprgen8080.specs.internal.Emitted.{EmitsSteps};
 ghost use Rattle.codegen8080.specs.internal.Generated.{HoldsNoStatement, byte_at_address_steps, byte_at_steps, byte_in_a, carried_steps, frame_word_steps, jump_on_steps, load_byte_steps, load_word_steps, site_of, word_at_steps, word_in_hl};

@@ -1,9 +1,9 @@
 //! Emission of planned code of statements.
 
 ghost use Rattle.std.specs.Prelude.{◌≡◌, ◌+◌, true, [], ◌++◌, drop, take, length, slice_get, is_some, Some, IfOk, OnOk};
-ghost use Rattle.treecode.specs.Nodes.{item_of, nodes_of};
-ghost use Rattle.treecode.specs.Rising.{NumbersRise};
-ghost use Rattle.steps8080.specs.Step.{label_after};
+ghost use Rattle.treecode.specs.internal.Nodes.{item_of, nodes_of};
+ghost use Rattle.treecode.specs.internal.Rising.{NumbersRise};
+ghost use Rattle.steps8080.specs.internal.Step.{label_after};
 ghost use Rattle.exprgen8080.specs.internal.Emitted.{IsEmpty};
 ghost use Rattle.exprgen8080.specs.internal.Emission.{knowing};
 ghost use Rattle.codegen8080.specs.internal.Driven.{AddsList, AddsPlanned, AddsStatement, AddsStep, here_of};

@@ -2,8 +2,8 @@
 
 ghost use Rattle.std.specs.Prelude.{◌≡◌, ◌<◌, false, length, slice_index_or, Some, IfOk, OnOk};
 ghost use Rattle.failure.specs.Failure.{IfFault};
-ghost use Rattle.treecode.specs.Nodes.{nodes_of};
-ghost use Rattle.treecode.specs.Rising.{NumbersRise};
+ghost use Rattle.treecode.specs.internal.Nodes.{nodes_of};
+ghost use Rattle.treecode.specs.internal.Rising.{NumbersRise};
 ghost use Rattle.codegen8080.specs.internal.Modules.{IsCodeWritten, IsGenerated, all_routines, content_items, contents_items, has_main};
 ghost use Rattle.codegen8080.specs.internal.Refusals.{IsNoSegment, MayRefuse};
 ghost use Rattle.codegen8080.specs.internal.Bodies.{AddsCalled, AddsCodeOfMain, AddsOwnCode, AddsProcedures, AddsRoutines, first_routines, last_routines, next_routines};
@@ -12,8 +12,8 @@ ghost use Rattle.codegen8080.specs.internal.Segments.{KeepsFixes};
 ghost use Rattle.codegen8080.specs.internal.Sources.{IsOfModule};
 ghost use Rattle.codegen8080.specs.internal.Listing.{AreNamesOf, start_in};
 ghost use Rattle.codegen8080.specs.internal.Names.{IsLinkable};
-ghost use Rattle.steps8080.specs.Externals.{Extends};
-ghost use Rattle.steps8080.specs.Writer.{Finishes, NumbersNames, Writes, numbered};
+ghost use Rattle.steps8080.specs.internal.Externals.{Extends};
+ghost use Rattle.steps8080.specs.internal.Writer.{Finishes, NumbersNames, Writes, numbered};
 
 use crate::bodies::{put_main, put_procedure};
 use crate::fault::Fault;

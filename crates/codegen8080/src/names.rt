@@ -2,7 +2,7 @@
 
 ghost use Rattle.std.specs.Prelude.{◌≡◌, ◌+◌, ◌<◌, [], ◌++◌, false, length, set, IfNone, IfOk, IfSome, IsTrue};
 ghost use Rattle.std.specs.List.{AllByRecursion};
-ghost use Rattle.steps8080.specs.Externals.{IsNumbering};
+ghost use Rattle.steps8080.specs.internal.Externals.{IsNumbering};
 ghost use Rattle.object_modules.specs.Module.{are_new, is_among, may_have_publics};
 ghost use Rattle.object_modules.specs.Views.{owned_public_view};
 ghost use Rattle.codegen8080.specs.internal.Modules.{IsAtPlace, used_names};

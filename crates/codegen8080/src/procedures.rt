@@ -1,7 +1,7 @@
 //! Entries, arguments and returns of procedures.
 
 ghost use Rattle.std.specs.Prelude.{◌≡◌, ◌∷◌, [], length, IfOk, OnOk};
-ghost use Rattle.statements8080.specs.Plans.{PlanAdds, PlanAddsWithLabels};
+ghost use Rattle.statements8080.specs.internal.Plans.{PlanAdds, PlanAddsWithLabels};
 ghost use Rattle.codegen8080.specs.internal.Procedures.{argument_step, below_return_steps, drop_steps, end_steps, entry_labels, entry_steps, exchanged_steps, frame_entry_steps, kept_steps, known_at, known_from, last_argument_facts, last_argument_steps, odd_byte_steps, pair_of, place_in_memory, popped_argument_steps, popped_at, popped_from, pops_steps, push_loop_steps, pushed_arguments_steps, pushes_labels, pushes_steps, return_of_frame_steps, return_over_any_steps, return_over_steps, return_steps, static_entry_steps, stores_steps, with_argument, zero_result_steps, zeros_labels, zeros_steps};
 
 use asm8080::WordForm;

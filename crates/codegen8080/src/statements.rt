@@ -2,7 +2,7 @@
 
 ghost use Rattle.std.specs.Prelude.{◌∷◌, [], OnOk};
 ghost use Rattle.steps8080.specs.declared.step.Task.TheVariants.{Call};
-ghost use Rattle.statements8080.specs.Plans.{PlanAdds, PlanAddsWithLabels, part};
+ghost use Rattle.statements8080.specs.internal.Plans.{PlanAdds, PlanAddsWithLabels, part};
 ghost use Rattle.codegen8080.specs.internal.Statements.{goto_steps, halt_steps, return_of_steps, returned_value_steps, statement_labels, statement_steps};
 
 use crate::procedures::plan_return;

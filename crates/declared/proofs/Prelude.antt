@@ -7,7 +7,7 @@ pub use Rattle.placing.specs.{Tables.{IsKind, IsTableOf}, Views.{placement_view}
 pub use Rattle.meaning.specs.{Access.{InMemory, InTheFrame, frame_bytes, is_constant, is_declared, read_byte, read_scalar, write_byte, write_scalar}, Meaning.{frame_of, is_frame_of}, Outcomes.{Gave, Outcome, Outside, Program, State, Stopped, then_do}, declared.reason.Reason.{Reason, TheVariants.{Byte as UndeclaredByte, Constant}}}
 pub use Rattle.declared.specs.Access.{Written, byte_read, byte_written, modules_in, next_address, number_of_bytes, refused, scalar_read, scalar_written, then_write, written}
 unfoldable pub use Rattle.declared.specs.Access.{is_constant_at, is_declared_at}
-pub use Rattle.declared.specs.Frames.{ModuleFrames, current_frame, frame_object, frame_object_by, frame_scalar, frame_with_byte, frame_with_scalar, is_procedure, module_frames, size_in, sizes_in, with_current, zeroed, zeroed_frame}
+pub use Rattle.declared.specs.internal.Frames.{ModuleFrames, current_frame, frame_object, frame_object_by, frame_scalar, frame_with_byte, frame_with_scalar, is_procedure, module_frames, size_in, sizes_in, with_current, zeroed, zeroed_frame}
 pub use Rattle.declared.specs.declared.frames.OpenFrame.{OpenFrame}
 pub use Rattle.declared.specs.internal.Cuts.{cut, total}
 pub use Rattle.declared.specs.internal.Nesting.{AreFrames, AreNested, frames_in, open_frames, sizes_of}

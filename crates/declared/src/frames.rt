@@ -96,7 +96,7 @@ impl OpenFrame<'_> {
 impl<'a> Frames<'a> {
     ghost use Rattle.std.specs.Prelude.{◌≡◌, ◌∷◌, ◌+◌, ◌*◌, ◌<◌, [], MatchResult, drop, slice_index};
     ghost use Rattle.meaning.specs.Access.{frame_bytes};
-    ghost use Rattle.declared.specs.Frames.{current_frame, frame_scalar, frame_with_byte, frame_with_scalar, with_current, zeroed_frame};
+    ghost use Rattle.declared.specs.internal.Frames.{current_frame, frame_scalar, frame_with_byte, frame_with_scalar, with_current, zeroed_frame};
 
     /// No frames: only the main program runs.
     pub fn new(alloc: Global) -> Frames<'a>

@@ -35,7 +35,7 @@ pub struct FrameSlots {
 
 impl Model for FrameSlots {
     ghost use Rattle.std.specs.Prelude.{length, map};
-    ghost use Rattle.declared.specs.Frames.{ModuleFrames};
+    ghost use Rattle.declared.specs.internal.Frames.{ModuleFrames};
     ghost use Rattle.declared.specs.internal.Slots.{AreSlots, slot_view};
 
     ghost Value = { ModuleFrames };
@@ -96,7 +96,7 @@ fn zeros(alloc: Global, count: usize) -> Result<Vec<usize>, AllocError>
 impl FrameSlots {
     ghost use Rattle.std.specs.Prelude.{◌≡◌, ◌∷◌, ◌++◌, ◌+◌, ◌<◌, ◌≤◌, [], None, Some, OnOk, IfOk, length, slice_index, take};
     ghost use Rattle.typed_trees.specs.Views.{module_view, object_view};
-    ghost use Rattle.declared.specs.Frames.{frame_object, module_frames, sizes_in};
+    ghost use Rattle.declared.specs.internal.Frames.{frame_object, module_frames, sizes_in};
     ghost use Rattle.declared.specs.internal.Cuts.{total};
 
     // No objects yet, and a number of procedures.

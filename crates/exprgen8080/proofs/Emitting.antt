@@ -4,7 +4,7 @@ use Rattle.std.specs.Prelude.{Option}
 use Rattle.std.proofs.lemmas.Option.{slice_get_past}
 use Rattle.runtime8080.specs.declared.routine.Routine.{Routine}
 use Rattle.treecode.specs.declared.procedure.TreeProcedure.{TreeProcedure}
-use Rattle.steps8080.specs.Facts.{no_facts}
+use Rattle.steps8080.specs.internal.Facts.{no_facts}
 use Rattle.exprgen8080.specs.internal.Emission.{items_of_call, module_call_items}
 use Rattle.steps8080.specs.declared.step.Step.TheVariants as steps
 use Rattle.steps8080.proofs.Numbered.{either_true, is_itself, writes_nothing, writes_then}

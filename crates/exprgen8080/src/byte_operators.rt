@@ -1,7 +1,7 @@
 //! Operators on low bytes, with the result in A.
 
 ghost use Rattle.std.specs.Prelude.{OnOk, ◌≡◌};
-ghost use Rattle.steps8080.specs.Step.{Adds};
+ghost use Rattle.steps8080.specs.internal.Step.{Adds};
 ghost use Rattle.exprgen8080.specs.internal.ByteOperators.{added_steps, byte_binary_steps, byte_operation_steps, commutes, form_from_register, form_of, from_number_steps, immediate_steps, product_byte_steps, quotient_byte_steps, remainder_byte_steps, with_e_steps, with_memory_steps, with_number_steps, with_stack_steps};
 
 use crate::byte_shifts::plan_low_byte_shifted_right;

@@ -1,7 +1,7 @@
 //! Code that puts low bytes of values into A.
 
 ghost use Rattle.std.specs.Prelude.{OnOk};
-ghost use Rattle.steps8080.specs.Step.{Adds};
+ghost use Rattle.steps8080.specs.internal.Step.{Adds};
 ghost use Rattle.exprgen8080.specs.internal.Bytes.{byte_form_steps, byte_function_steps, byte_of_two_steps, byte_steps, byte_unary_steps, called_byte_steps, embedded_steps, known_byte_steps, low_of_value_steps};
 
 use crate::byte_operators::{Operands, plan_byte_binary};

@@ -1,7 +1,7 @@
 //! Calls of procedures.
 
 ghost use Rattle.std.specs.Prelude.{OnOk};
-ghost use Rattle.steps8080.specs.Step.{Adds};
+ghost use Rattle.steps8080.specs.internal.Step.{Adds};
 ghost use Rattle.exprgen8080.specs.internal.Calls.{call_steps, last_argument_steps, pushed_argument_steps};
 
 use isa8080::{Instr, StackPair};

@@ -1,7 +1,7 @@
 //! Expressions that are evaluated for their effects.
 
 ghost use Rattle.std.specs.Prelude.{OnOk};
-ghost use Rattle.steps8080.specs.Step.{Adds};
+ghost use Rattle.steps8080.specs.internal.Step.{Adds};
 ghost use Rattle.exprgen8080.specs.internal.Effects.{both_effects_steps, effects_steps, form_effects_steps, reference_effects_steps, subscript_effects_steps};
 
 use crate::bytes::plan_embedded;

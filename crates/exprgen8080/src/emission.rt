@@ -3,10 +3,10 @@
 ghost use Rattle.std.specs.Prelude.{◌≡◌, ◌∷◌, ◌<◌, [], true, IfOk, OnOk};
 ghost use Rattle.asm8080.specs.declared.item.Item.TheVariants.{Plain, Mark};
 ghost use Rattle.asm8080.specs.declared.item.WordForm.TheVariants.{CallTo};
-ghost use Rattle.treecode.specs.Nodes.{nodes_of};
-ghost use Rattle.treecode.specs.Rising.{NumbersRise};
-ghost use Rattle.steps8080.specs.Facts.{after, after_form, after_word, no_facts};
-ghost use Rattle.steps8080.specs.Writer.{jump_item, word_item};
+ghost use Rattle.treecode.specs.internal.Nodes.{nodes_of};
+ghost use Rattle.treecode.specs.internal.Rising.{NumbersRise};
+ghost use Rattle.steps8080.specs.internal.Facts.{after, after_form, after_word, no_facts};
+ghost use Rattle.steps8080.specs.internal.Writer.{jump_item, word_item};
 ghost use Rattle.exprgen8080.specs.internal.Emission.{after_test, has_routine, index_of_routine, knowing, module_call_items, module_label_of_routine, module_routine_label, test_items};
 ghost use Rattle.exprgen8080.specs.internal.Emitted.{AddsItems, Emits, EmitsSteps, HasAll, IsAlone, IsEmpty, IsNoPart, NotesCalled, after_step, step_items};
 

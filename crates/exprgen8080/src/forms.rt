@@ -1,7 +1,7 @@
 //! The steps of each task.
 
 ghost use Rattle.std.specs.Prelude.{OnOk};
-ghost use Rattle.steps8080.specs.Step.{AddsWithLabels};
+ghost use Rattle.steps8080.specs.internal.Step.{AddsWithLabels};
 ghost use Rattle.exprgen8080.specs.internal.Forms.{task_labels, task_steps};
 
 use crate::bytes::plan_byte;

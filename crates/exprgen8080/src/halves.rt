@@ -1,7 +1,7 @@
 //! Numbers in A, and halves of words in A.
 
 ghost use Rattle.std.specs.Prelude.{OnOk};
-ghost use Rattle.steps8080.specs.Step.{Adds};
+ghost use Rattle.steps8080.specs.internal.Step.{Adds};
 ghost use Rattle.exprgen8080.specs.internal.Halves.{byte_number_steps, high_byte_steps, low_of_word_steps};
 
 use isa8080::Register;

@@ -1,7 +1,7 @@
 //! Products and quotients by the routines.
 
 ghost use Rattle.std.specs.Prelude.{OnOk};
-ghost use Rattle.steps8080.specs.Step.{Adds};
+ghost use Rattle.steps8080.specs.internal.Step.{Adds};
 ghost use Rattle.exprgen8080.specs.internal.Routines.{computed_product_steps, division_steps};
 
 use crate::byte_operators::Operands;

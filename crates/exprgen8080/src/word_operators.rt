@@ -1,7 +1,7 @@
 //! Operators with the result in HL.
 
 ghost use Rattle.std.specs.Prelude.{OnOk, ◌≡◌};
-ghost use Rattle.steps8080.specs.Step.{Adds};
+ghost use Rattle.steps8080.specs.internal.Step.{Adds};
 ghost use Rattle.exprgen8080.specs.internal.WordOperators.{difference_steps, half_steps, high_half_steps, logic_steps, logic_with_byte_steps, logic_with_number_steps, logic_with_simple_steps, product_word_steps, quotient_steps, remainder_steps, simple_operand, sum_steps, taken_from_number_steps, with_pair_steps, with_simple, with_word_steps, word_binary_steps};
 
 use crate::byte_operators::{Operands, plan_byte_operation, plan_with_number};

@@ -1,7 +1,7 @@
 //! Shifts of words in HL.
 
 ghost use Rattle.std.specs.Prelude.{OnOk, ◌≡◌};
-ghost use Rattle.steps8080.specs.Step.{Adds};
+ghost use Rattle.steps8080.specs.internal.Step.{Adds};
 ghost use Rattle.exprgen8080.specs.internal.WordShifts.{computed_count_steps, half_steps, quarter_steps, shifted_left_steps, shifted_right_little_steps, word_routine, word_shift_steps, word_shifted_right_steps, zero_steps};
 
 use crate::byte_shifts::{Shifted, plan_byte_shifted_right, plan_right_shift};

@@ -1,7 +1,7 @@
 //! Code that puts values into HL.
 
 ghost use Rattle.std.specs.Prelude.{OnOk};
-ghost use Rattle.steps8080.specs.Step.{Adds};
+ghost use Rattle.steps8080.specs.internal.Step.{Adds};
 ghost use Rattle.exprgen8080.specs.internal.Words.{extended_byte_steps, word_form_steps, word_function_steps, word_of_two_steps, word_steps, word_unary_steps};
 
 use crate::byte_operators::Operands;

@@ -2,7 +2,7 @@
 -- module that it is lowered from.
 use Rattle.frames.proofs.Prelude.{◌≡◌, ℕ, ◌+◌, ◌<◌, ◌≤◌, Bool, min, if◌then◌else◌, List, length, slice_get, Option, Some, None, IsSomeAnd, refl, ap, sym, ◌∙◌, subst, arith, option_map, option_map_or, lt-ltb, same_Some, slice_get-map, slice_get_within, InFrame, TypedObject, TypedProcedure, TypedModule, size_of_object, FramesFit, ParametersFit, Storage, TreeModule, FrameVariable, TreeProcedure, frame_number, frame_position, frame_variable, frame_variables, IsProcedure, IsLowered, Nodes, nodes_of, FramePlan, IsChargedAs, bytes_of_call, distance_of, return_of, size_in, IsPlanOf, LiesApart, TakeBytes}
 use Rattle.frames.proofs.Places.{frame_lies_apart}
-use Rattle.frames.specs.Calls.{call_bytes}
+use Rattle.frames.specs.internal.Calls.{call_bytes}
 use Rattle.frames.specs.internal.Objects.{HasByte, place_of_byte, ObjectsLie, IsFramedAs}
 use Rattle.frames.proofs.Entries.{entries, stands_at}
 use Rattle.frames.proofs.Parameters.{has_parameters, frame_fits}

@@ -1,4 +1,1 @@
-pub mod Frames
-pub mod Charges
 pub mod internal
-pub mod Calls

@@ -4,7 +4,7 @@ ghost use Rattle.std.specs.Prelude.{◌≡◌, ◌≤◌, min};
 ghost use Rattle.mem80.specs.declared.memory.TheConstants.{MEMORY_SIZE};
 ghost use Rattle.typed_trees.specs.Charge.{charge_of, height_of_list};
 ghost use Rattle.typed_trees.specs.TypedTrees.{TypedProcedure};
-ghost use Rattle.frames.specs.Charges.{charge_in, IsChargedAs};
+ghost use Rattle.frames.specs.internal.Charges.{charge_in, IsChargedAs};
 
 use treecode::TreeProcedure;
 

@@ -2,7 +2,7 @@
 
 ghost use Rattle.std.specs.Prelude.{◌≡◌, IfOk};
 ghost use Rattle.treecode.specs.declared.procedure.ProcedureKind.TheVariants.{Reentrant};
-ghost use Rattle.frames.specs.Frames.{distance_of, variable_bytes, HasFrame, HasNothing, IsPlanOf, LiesApart};
+ghost use Rattle.frames.specs.internal.Frames.{distance_of, variable_bytes, HasFrame, HasNothing, IsPlanOf, LiesApart};
 ghost use Rattle.frames.specs.internal.Distances.{capped, capped_parameter, distances_from, IsFound};
 
 use std::alloc::{AllocError, Global};

@@ -10,8 +10,8 @@ use Rattle.layout.specs.{Joined.{Global, first_repeated, global_object, global_o
 use Rattle.layout.specs.declared.slot.Segment.{Segment as SlotSegment}
 use Rattle.layout.specs.declared.slot.Segment.TheVariants as segments
 use Rattle.object_modules.specs.Module.{are_new, is_among}
-use Rattle.treecode.specs.{Contents.{public_item, public_object, public_procedure, static_place}, Homes.{external_name, external_object, external_procedure, externals_of, home_after, home_of_object, homes_from, place_of_slot}, Nodes.{home_at}, declared.module.ExternalName.{ExternalName}, declared.module.PublicName.{PublicName}, declared.place.Home.{Home}}
-unfoldable use Rattle.treecode.specs.{Contents.{publics_of}, Homes.{homes_of}}
+use Rattle.treecode.specs.{internal.Contents.{public_item, public_object, public_procedure, static_place}, internal.Homes.{external_name, external_object, external_procedure, externals_of, home_after, home_of_object, homes_from, place_of_slot}, internal.Nodes.{home_at}, declared.module.ExternalName.{ExternalName}, declared.module.PublicName.{PublicName}, declared.place.Home.{Home}}
+unfoldable use Rattle.treecode.specs.{internal.Contents.{publics_of}, internal.Homes.{homes_of}}
 use Rattle.treecode.specs.declared.place.Home.TheVariants as homes
 use Rattle.treecode.specs.declared.place.Place.TheVariants as places
 use Rattle.treecode_laws.specs.internal.Places.{IsHere}

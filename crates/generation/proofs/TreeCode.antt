@@ -3,8 +3,8 @@ use Rattle.generation.proofs.Prelude.{◌≡◌, ℕ, IfOk, IfOk-weaker, List, R
 use Rattle.std.specs.Prelude.{map, zip}
 use Rattle.trees.specs.declared.declaration.ScalarType.{ScalarType}
 use Rattle.layout.specs.{Storage.{Storage}, Sound.{IsSoundlyTyped}}
-use Rattle.treecode.specs.{Homes.{parameter_at}, declared.procedure.Parameter.{Parameter}}
-use Rattle.frames.specs.Charges.{IsChargedAs}
+use Rattle.treecode.specs.{internal.Homes.{parameter_at}, declared.procedure.Parameter.{Parameter}}
+use Rattle.frames.specs.internal.Charges.{IsChargedAs}
 use Rattle.frames.proofs.{Frames.{parameter_count}, Parameters.{has_parameters}}
 use Rattle.generation.specs.internal.TreeCode.{KeepsModule}
 use Rattle.generation.proofs.{Contract.{code_does}, Counting.{tree_bound_is}}

@@ -2,8 +2,8 @@
 #![tactic(auto)]
 
 ghost use Rattle.std.specs.Prelude.{IfOk};
-ghost use Rattle.treecode.specs.Nodes.{nodes_of};
-ghost use Rattle.treecode.specs.Rising.{NumbersRise};
+ghost use Rattle.treecode.specs.internal.Nodes.{nodes_of};
+ghost use Rattle.treecode.specs.internal.Rising.{NumbersRise};
 ghost use Rattle.generation.specs.internal.Doing.{CodeDoes};
 
 use exprgen8080::Emission;

@@ -5,7 +5,7 @@ ghost use Rattle.std.specs.Prelude.{IfOk};
 ghost use Rattle.typed_trees.specs.Jumps.{JumpsAreSound};
 ghost use Rattle.typed_trees.specs.Views.{module_view};
 ghost use Rattle.layout.specs.Views.{layout_view};
-ghost use Rattle.treecode.specs.Lowered.{IsLowered};
+ghost use Rattle.treecode.specs.internal.Lowered.{IsLowered};
 ghost use Rattle.codegen8080.specs.internal.Sources.{IsOfModule};
 ghost use Rattle.codegen8080.specs.internal.Standing.{BodiesStand};
 ghost use Rattle.generation.specs.internal.TreeCode.{KeepsModule, KeepsNames};

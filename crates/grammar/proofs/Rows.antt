@@ -1,6 +1,6 @@
 -- Rows of the derivation.
 use Rattle.grammar.proofs.Prelude.{◌≡◌, List, [], ◌∷◌, refl, lit≤, arith, Identifier, DerivesExpression, Derives, whole_module, no_declaration, next_statement, no_statement, labelled, unlabelled, null, goto, if_then, if_then_else, next_level, reference, whole, no_arguments, expression_level, IsExpression, expression_symbols, Symbol, NameSymbol, ReferenceLeaf, ReferenceTo, NoArguments, NoMember}
-use Rattle.grammar.specs.Rows.{at, nested_if_words, nested_if_tree, left_sum, right_sum}
+use Rattle.grammar.specs.internal.Rows.{at, nested_if_words, nested_if_tree, left_sum, right_sum}
 
 variable-derived : {name : Identifier} {rest : List Symbol}
     → DerivesExpression expression_level (NameSymbol name ∷ rest)

@@ -3,5 +3,4 @@ pub mod Spelling
 pub mod Forms
 pub mod Nesting
 pub mod Derivation
-pub mod Rows
 pub mod internal

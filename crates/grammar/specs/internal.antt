@@ -1,2 +1,4 @@
+-- Cited by other crates, private functions and proofs, and by no contract of the program or of a library.
+pub mod Rows
 pub mod Forms
 pub mod Spelling

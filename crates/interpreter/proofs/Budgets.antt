@@ -3,7 +3,7 @@ use Rattle.interpreter.proofs.Prelude.{◌≡◌, ℕ, suc, ◌+◌, ◌-◌, �
 use Rattle.std.proofs.Common.{length-append, zero}
 use Rattle.ports.specs.{declared.event.Event.{Event}, Events.{AddsEvent, IsBeginning}}
 use Rattle.meaning.specs.{Outcomes.{More}, declared.reason.Reason.{Reason}, internal.Kept.{with_more}}
-use Rattle.stack_code.specs.{Code.{program_code}, declared.instruction.Instruction.{Instruction}, Machine.{Machine, Progress, Going, Done}, Run.{stack_run, start_state, start_surroundings}, internal.Simulation.{Adds}}
+use Rattle.stack_code.specs.{internal.Code.{program_code}, declared.instruction.Instruction.{Instruction}, internal.Machine.{Machine, Progress, Going, Done}, internal.Run.{stack_run, start_state, start_surroundings}, internal.Simulation.{Adds}}
 use Rattle.stack_code.proofs.{Budgets.{LastsOn, Sinks, lasts_run, left_in, more_in, sinks_run, left_within_budget}, Meant.{begins_as_meant, done_as_meant}}
 use Rattle.interpreter.specs.Budgets.{IsLeast, Uses, UsesUpTo}
 

@@ -12,6 +12,6 @@ pub use Rattle.placing.specs.{Views.{module_placement_view, placement_view}, dec
 pub use Rattle.meaning.specs.{Access.{Surroundings, address_of}, Meaning.{done_list, later_by}, Outcomes.{Ended, Flow, Gave, Outcome, Outside, Program, State, Stop, Stopped}, Run.{Run, main_done, number_of_main, run_of}, declared.reason.Reason.TheVariants.{Stack}, internal.Kept.{ComesAfter}}
 unfoldable pub use Rattle.meaning.specs.Run.{source_run}
 pub use Rattle.stack_code.proofs.Events.{adds_both}
-pub use Rattle.resolving.specs.{Views.{program_view, site_view}, declared.site.Site.{Site}}
+pub use Rattle.resolving.specs.{internal.Views.{program_view, site_view}, declared.site.Site.{Site}}
 pub use Rattle.interpreter.specs.internal.Contents.{contents_at, contents_from, module_in, with_all, with_contents}
 pub use Rattle.interpreter.specs.internal.MainModules.{found_from, found_view}

@@ -2,14 +2,14 @@
 use Rattle.interpreter.proofs.Prelude.{◌≡◌, ℕ, suc, ◌-◌, Bool, true, false, cond, List, Option, None, Some, Result, Ok, Err, IfErr, IfOk, OnErr, All, find, nat_lt, slice_get, refl, sym, ap, ◌∙◌, arith, subst, option_map_or, JumpsAreSound, charge_of, TypedList, ListOf, TypedModule, is_main, Placement, starting_memory, Stack, Surroundings, done_list, later_by, State, Stop, Ended, Outside, Outcome, Gave, Stopped, Flow, Run, main_done, number_of_main, run_of, source_run, ComesAfter, found_from, adds_both}
 use Rattle.ports.specs.{declared.event.Event.{Event}, Events.{IsBeginning}}
 use Rattle.meaning.proofs.Added.{adds_if, adds_rest, begins_itself, later_adds}
-use Rattle.stack_code.specs.{Program.{AreTablesOf}, declared.program.StackProgram.{StackProgram}, declared.instruction.Instruction.{Instruction}, Machine.{Machine, Progress, Going, Done, and_then_steps, progress_of, steps}, Run.{machine_in, stack_run, start_state, start_surroundings, started as charged_start}, internal.Simulation.{Adds}}
+use Rattle.stack_code.specs.{internal.Program.{AreTablesOf}, declared.program.StackProgram.{StackProgram}, declared.instruction.Instruction.{Instruction}, internal.Machine.{Machine, Progress, Going, Done, and_then_steps, progress_of, steps}, internal.Run.{machine_in, stack_run, start_state, start_surroundings, started as charged_start}, internal.Simulation.{Adds}}
 use Rattle.stack_code.proofs.{Events.{adds_steps}, Meant.{begins_as_meant, done_as_meant, main_at}}
-use Rattle.stack_compiler.specs.Compiled.{IsCompiled}
-use Rattle.stack_machine.specs.Runs.{Reaches, ReachesCall, Stops, state_at_start}
-unfoldable use Rattle.stack_machine.specs.Runs.{ReachesFault}
+use Rattle.stack_compiler.specs.internal.Compiled.{IsCompiled}
+use Rattle.stack_machine.specs.internal.Runs.{Reaches, ReachesCall, Stops, state_at_start}
+unfoldable use Rattle.stack_machine.specs.internal.Runs.{ReachesFault}
 use Rattle.stack_machine.specs.declared.end.RunFault.{RunFault}
 use Rattle.stack_machine.specs.declared.end.RunFault.TheVariants as faults
-use Rattle.stack_code.specs.Code.{program_code}
+use Rattle.stack_code.specs.internal.Code.{program_code}
 use Rattle.interpreter.specs.Budgets.{FailsAt, StopsBefore, Uses}
 use Rattle.interpreter.proofs.Budgets.{comes_next, used_to_end, used_to_event}
 use Rattle.interpreter.proofs.MainModules.{main_is, main_is_none, number_is}

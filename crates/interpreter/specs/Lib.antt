@@ -1,4 +1,3 @@
-pub use Rattle.stack_machine.specs.Runs
 pub use Rattle.stack_machine.specs.declared.end.RunFault
 pub mod Budgets
 pub mod internal

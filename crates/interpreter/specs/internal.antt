@@ -1,2 +1,3 @@
+pub use Rattle.stack_machine.specs.internal.Runs
 pub mod MainModules
 pub mod Contents

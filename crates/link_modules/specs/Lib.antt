@@ -1,4 +1,4 @@
 pub use Rattle.object_modules.specs.Merge
 pub use Rattle.link_laws.specs.Faults
 pub mod Merging
-pub mod Views
+pub mod internal

@@ -5,7 +5,7 @@ ghost use Rattle.std.specs.Option.{option_map};
 ghost use Rattle.object_modules.specs.Displacements.{linked_modules};
 ghost use Rattle.object_modules.specs.Merge.{main_modules};
 ghost use Rattle.object_laws.proofs.Merges.MergeValid.{main_of};
-ghost use Rattle.link_modules.specs.Views.{main_view};
+ghost use Rattle.link_modules.specs.internal.Views.{main_view};
 
 use crate::inputs::Input;
 use crate::linkable::{Linkable, Named};

@@ -2,7 +2,7 @@
 
 ghost use Rattle.std.specs.Prelude.{◌≡◌, ◌<◌, length, map};
 ghost use Rattle.object_modules.specs.Displacements.{start_in};
-ghost use Rattle.link_modules.specs.Views.{start_view};
+ghost use Rattle.link_modules.specs.internal.Views.{start_view};
 
 use crate::placed::ModuleStart;
 use object_modules::{ObjectModule, Segment};
@@ -17,7 +17,7 @@ pub struct Merged {
 impl Model for Merged {
     ghost use Rattle.std.specs.Prelude.{map};
     ghost use Rattle.link_modules.specs.Merging.{Merged as MergedValue};
-    ghost use Rattle.link_modules.specs.Views.{start_view};
+    ghost use Rattle.link_modules.specs.internal.Views.{start_view};
 
     ghost Value = { MergedValue };
 

@@ -11,7 +11,7 @@ ghost use Rattle.link_laws.specs.Faults.{refusal_of};
 ghost use Rattle.link_laws.specs.internal.Building.{AreJoined, alignment_joined, end_in, end_joined};
 ghost use Rattle.link_laws.specs.internal.Passes.{externals_of, gathered, missing_in};
 ghost use Rattle.link_laws.specs.internal.Growing.{all_grown, nothing_grown};
-ghost use Rattle.link_modules.specs.Views.{main_view};
+ghost use Rattle.link_modules.specs.internal.Views.{main_view};
 
 use crate::contents::segments_of;
 use crate::growing::GrowingSegment;

@@ -7,7 +7,7 @@ ghost use Rattle.object_modules.specs.Merge.{SegmentTooLong, some_segment_is_too
 ghost use Rattle.object_modules.specs.Module.{IsObjectModule};
 ghost use Rattle.link_laws.specs.Faults.{refusal_of};
 ghost use Rattle.link_laws.specs.internal.Building.{starts_in};
-ghost use Rattle.link_modules.specs.Views.{start_view};
+ghost use Rattle.link_modules.specs.internal.Views.{start_view};
 
 use crate::inputs::Input;
 use crate::linkable::Linkable;

@@ -3,7 +3,7 @@
 ghost use Rattle.std.specs.Prelude.{◌≡◌, ◌+◌, ◌≤◌, length};
 ghost use Rattle.object_modules.specs.Displacements.{displacement_in};
 ghost use Rattle.object_modules.specs.Module.{IsObjectModule, length_of};
-ghost use Rattle.link_modules.specs.Views.{start_view};
+ghost use Rattle.link_modules.specs.internal.Views.{start_view};
 
 use crate::inputs::Input;
 use crate::linkable::Linkable;
@@ -20,7 +20,7 @@ pub(crate) struct ModuleStart {
 impl ModuleStart {
     ghost use Rattle.std.specs.Prelude.{◌≡◌};
     ghost use Rattle.object_modules.specs.Displacements.{start_of};
-    ghost use Rattle.link_modules.specs.Views.{start_view};
+    ghost use Rattle.link_modules.specs.internal.Views.{start_view};
 
     /// Where the piece of a segment begins; 0 for the absolute one and the stack.
     pub(crate) fn of(self, segment: Segment) -> u16
@@ -43,7 +43,7 @@ pub(crate) struct Placed<'s, L: Linkable> {
 
 impl<'s, L: Linkable> Model for Placed<'s, L> {
     ghost use Rattle.object_modules.specs.Displacements.{Linked};
-    ghost use Rattle.link_modules.specs.Views.{start_view};
+    ghost use Rattle.link_modules.specs.internal.Views.{start_view};
     ghost use Rattle.link_laws.specs.internal.Building.{Fits};
 
     ghost Value = { Linked };

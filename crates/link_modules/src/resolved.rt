@@ -26,7 +26,7 @@ impl Model for Resolved {
     ghost use Rattle.std.specs.Option.{option_map};
     ghost use Rattle.object_modules.specs.Views.{owned_public_view};
     ghost use Rattle.link_laws.specs.internal.Growing.{Resolved as ResolvedValue};
-    ghost use Rattle.link_modules.specs.Views.{start_view};
+    ghost use Rattle.link_modules.specs.internal.Views.{start_view};
 
     ghost Value = { ResolvedValue };
 

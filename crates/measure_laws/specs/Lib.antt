@@ -1,4 +1,1 @@
-pub mod Weights
 pub mod internal
-pub mod Sound
-pub mod Bounds

@@ -1,3 +1,7 @@
+-- Cited by other crates, private functions and proofs, and by no contract of the program or of a library.
+pub mod Weights
+pub mod Sound
+pub mod Bounds
 -- Definitions that only proofs cite.
 pub mod Heights
 pub mod Sizes

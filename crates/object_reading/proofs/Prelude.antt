@@ -10,15 +10,15 @@ pub use Rattle.object_modules.specs.{Before.{content_end, content_of, definition
 unfoldable pub use Rattle.object_modules.specs.{Reading.{part_in}, Rules.{fault_at}, Walking.{parts_from, walk_over}, internal.Judgement.{parts_of}}
 pub use Rattle.object_laws.proofs.{Files.AnyCount.{Shortens, all_unfolds, any_judged, definition_shortens, listed_name_shortens}, Files.FilesAgain.{limit_of}, Files.FrontsAgain.{ReadsAgain, all_again, definition_again, fix_kind_again, listed_name_again, references_again, segment_again, word_of, words_again}, Files.Judged.{JudgesFile, parts_law}, Files.Unique.{no_fault}, Files.FileWalks.{part_first, parts_from_is}}
 pub use Rattle.object_laws.proofs.{Booleans.{or_exchanged, or_swap}, BorrowedNames.{among_borrowed}, Files.Contents.{same_is}, Texts.Accepting.{fit_nothing, leading_more}, Texts.Counted.{has_width}}
-pub use Rattle.object_reading.specs.Entries.{AreEntries, AreParts, body_where, content_at, content_where, contents_after, definition_at, is_content, is_external_names, is_publics, publics_where}
-pub use Rattle.object_reading.specs.Fixes.{AreFixEntries, AreHeadEntries, FixHead, external_fix, fix_head, fix_in_front, fix_where, fixes_after, fixes_in, segment_fix}
-pub use Rattle.object_reading.specs.Headers.{entry_at, extents_after, extents_in, extents_with, nothing_said}
-pub use Rattle.object_reading.specs.Judging.{IsJudged}
-pub use Rattle.object_reading.specs.Marks.{AreMarked, Marked, are_placed, covers, first_mark, is_marked, last_mark, marked_after, marked_with, marks_after, onto, unmarked, with_marks}
-unfoldable pub use Rattle.object_reading.specs.Marks.{no_marks}
-pub use Rattle.object_reading.specs.NamesJudged.{definition_name_in_front, entry_name, names_in, names_taken}
-pub use Rattle.object_reading.specs.Order.{is_over, may_come}
-pub use Rattle.object_reading.specs.References.{entries_fit, is_known, target_fits}
+pub use Rattle.object_reading.specs.internal.Entries.{AreEntries, AreParts, body_where, content_at, content_where, contents_after, definition_at, is_content, is_external_names, is_publics, publics_where}
+pub use Rattle.object_reading.specs.internal.Fixes.{AreFixEntries, AreHeadEntries, FixHead, external_fix, fix_head, fix_in_front, fix_where, fixes_after, fixes_in, segment_fix}
+pub use Rattle.object_reading.specs.internal.Headers.{entry_at, extents_after, extents_in, extents_with, nothing_said}
+pub use Rattle.object_reading.specs.internal.Judging.{IsJudged}
+pub use Rattle.object_reading.specs.internal.Marks.{AreMarked, Marked, are_placed, covers, first_mark, is_marked, last_mark, marked_after, marked_with, marks_after, onto, unmarked, with_marks}
+unfoldable pub use Rattle.object_reading.specs.internal.Marks.{no_marks}
+pub use Rattle.object_reading.specs.internal.NamesJudged.{definition_name_in_front, entry_name, names_in, names_taken}
+pub use Rattle.object_reading.specs.internal.Order.{is_over, may_come}
+pub use Rattle.object_reading.specs.internal.References.{entries_fit, is_known, target_fits}
 pub use Rattle.object_reading.specs.Views.{content_view}
 pub use Rattle.object_reading.specs.declared.judgement.header.Header.{Header}
 pub use Rattle.object_reading.specs.declared.rules.extents.Extents.{Extents}

@@ -1,12 +1,4 @@
 pub mod Views
-pub mod Entries
-pub mod Fixes
-pub mod Headers
-pub mod Order
-pub mod NamesJudged
-pub mod Marks
-pub mod References
-pub mod Judging
 pub mod internal
 pub use Rattle.object_modules.specs.Walking
 pub use Rattle.object_reading.specs.Views

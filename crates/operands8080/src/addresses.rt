@@ -1,7 +1,7 @@
 //! Code that puts addresses of objects and their parts into HL.
 
 ghost use Rattle.std.specs.Prelude.{◌≡◌, OnOk};
-ghost use Rattle.steps8080.specs.Step.{Adds};
+ghost use Rattle.steps8080.specs.internal.Step.{Adds};
 ghost use Rattle.operands8080.specs.internal.Addresses.{addition_steps, address_steps, base_added_steps, base_steps, frame_word_steps, note_address_steps, note_word_steps, location_address_steps, location_word_steps, new_address_steps, number_added_steps, second_steps, word_at_hl_steps};
 
 use crate::products::plan_product;

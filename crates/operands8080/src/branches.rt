@@ -1,7 +1,7 @@
 //! Jumps on a condition.
 
 ghost use Rattle.std.specs.Prelude.{◌≡◌, [], ◌∷◌, OnOk};
-ghost use Rattle.steps8080.specs.Step.{Adds, AddsWithLabels};
+ghost use Rattle.steps8080.specs.internal.Step.{Adds, AddsWithLabels};
 ghost use Rattle.operands8080.specs.internal.Branches.{branch_labels, branch_part, branch_steps, by_bit_steps, equality_labels, equality_steps, is_odd, joined_labels, joined_steps, known_branch_steps, opposite, opposite_condition, other_labels, other_steps, shape_of, shape_of_binary, shape_of_form, shape_of_junction, shape_with_number, where_flags_steps};
 
 use crate::answers::{Purpose, Setting};

@@ -1,7 +1,7 @@
 //! Relations of BYTEs.
 
 ghost use Rattle.std.specs.Prelude.{◌≡◌, IfOk, OnOk};
-ghost use Rattle.steps8080.specs.Step.{Adds};
+ghost use Rattle.steps8080.specs.internal.Step.{Adds};
 ghost use Rattle.operands8080.specs.internal.ByteRelations.{answer_to, better_form, byte_is_steps, byte_number_answer, byte_number_steps, byte_relation_steps, comparing, exchanged, form_of, form_of_equality, in_order, is_better_exchanged, is_zero_steps, known_answer, may_begin_with, memory_form, number_in_a_answer, number_in_a_steps, pushed_steps, register_form, with_e_steps, with_memory_steps, without_push};
 
 use crate::answers::{Answer, Purpose, Setting, plan_known};

@@ -1,7 +1,7 @@
 //! Code that loads values from memory.
 
 ghost use Rattle.std.specs.Prelude.{◌≡◌, OnOk};
-ghost use Rattle.steps8080.specs.Step.{Adds};
+ghost use Rattle.steps8080.specs.internal.Step.{Adds};
 ghost use Rattle.operands8080.specs.internal.Loads.{byte_in_memory_steps, byte_to_l_steps, extended_byte_in_memory_steps, frame_byte_steps, frame_byte_to_l_steps, location_byte_steps, top_word_steps, word_in_memory_steps};
 
 use crate::addresses::{note_word, plan_location_address, plan_location_word, plan_word_at_hl};

@@ -1,7 +1,7 @@
 //! Code that puts two words into HL and DE.
 
 ghost use Rattle.std.specs.Prelude.{◌≡◌, IfOk, OnOk};
-ghost use Rattle.steps8080.specs.Step.{Adds};
+ghost use Rattle.steps8080.specs.internal.Step.{Adds};
 ghost use Rattle.operands8080.specs.internal.Pairs.{any_order, choices_of, form_steps, is_free_byte, left_in_hl, order_of, pair_form, pair_in_order_steps, pair_order, pair_order_by, pair_steps, right_in_hl, with_byte_steps, with_exchange_steps, with_known_steps, with_stack_steps};
 
 use asm8080::WordForm;

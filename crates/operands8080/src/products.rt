@@ -1,7 +1,7 @@
 //! Products with a number.
 
 ghost use Rattle.std.specs.Prelude.{◌≡◌, OnOk};
-ghost use Rattle.steps8080.specs.Step.{Adds};
+ghost use Rattle.steps8080.specs.internal.Step.{Adds};
 ghost use Rattle.operands8080.specs.internal.Products.{bit_steps, byte_product_steps, chain_steps, has_bit, multiple_steps, product_steps, small_multiple_steps};
 
 use asm8080::WordForm;

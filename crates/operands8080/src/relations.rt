@@ -1,7 +1,7 @@
 //! Relations, as flags and as values.
 
 ghost use Rattle.std.specs.Prelude.{◌≡◌, IfOk, OnOk};
-ghost use Rattle.steps8080.specs.Step.{Adds};
+ghost use Rattle.steps8080.specs.internal.Step.{Adds};
 ghost use Rattle.operands8080.specs.internal.ByteRelations.{answer_to};
 ghost use Rattle.operands8080.specs.internal.Relations.{carry_steps, comparison_steps, number_answer, number_steps, outcome_of, outcome_value_steps, relation_outcome, relation_steps, relation_value_steps};
 

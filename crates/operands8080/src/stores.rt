@@ -1,7 +1,7 @@
 //! Code that stores a value from A or HL.
 
 ghost use Rattle.std.specs.Prelude.{◌≡◌, OnOk};
-ghost use Rattle.steps8080.specs.Step.{Adds};
+ghost use Rattle.steps8080.specs.internal.Step.{Adds};
 ghost use Rattle.operands8080.specs.internal.Stores.{address_beside_a_steps, address_beside_de_steps, byte_is_here_steps, goal_of, send_steps, store_a_at_steps, store_a_steps, store_extended_steps, store_hl_at_steps, store_low_byte_steps, store_near_steps, store_steps, store_word_steps, word_is_here_steps, word_near};
 
 use asm8080::WordForm;

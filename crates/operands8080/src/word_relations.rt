@@ -2,7 +2,7 @@
 
 ghost use Rattle.std.specs.Prelude.{◌≡◌, IfOk, OnOk};
 ghost use Rattle.operands8080.specs.declared.answers.Answer.TheVariants.{Carry, Zero};
-ghost use Rattle.steps8080.specs.Step.{Adds};
+ghost use Rattle.steps8080.specs.internal.Step.{Adds};
 ghost use Rattle.operands8080.specs.internal.ByteRelations.{answer_to};
 ghost use Rattle.operands8080.specs.internal.WordRelations.{below_steps, difference_steps, equality_of_words, high_byte_steps, high_difference_steps, high_steps, left_apart, load_a_steps, low_difference_steps, low_steps, masked, masked_steps, operand_apart, other_word, place_apart, right_apart, with_pair_steps, with_place_steps, word_below_answer, word_below_steps, word_is_steps, word_is_zero_steps, word_number_answer, word_number_steps, word_relation_steps, word_taken_from, words_of, words_steps};
 

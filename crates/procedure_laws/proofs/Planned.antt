@@ -2,7 +2,7 @@
 use Rattle.procedure_laws.proofs.Prelude.{◌≡◌, List, [], ◌∷◌, ◌++◌, None, refl, ap, ◌∙◌, Instr, Item, WordForm, Place, Facts, after, after_word, with_facts, word_item, AreWritten, HoldsWritten, NoneWritten, PlainWritten, WordWritten, Planned, holds, plain, Here, AreCarriedOut, NoneCarriedOut, StepCarriedOut, carried_steps, here_after, site_of, waiting_after, BodyContext}
 use Rattle.asm8080.specs.declared.item.Item.TheVariants as items
 use Rattle.steps8080.specs.declared.step.Step.TheVariants as steps
-use Rattle.statements8080.specs.Plans.{word}
+use Rattle.statements8080.specs.internal.Plans.{word}
 
 -- what is written after the first items, where this is known then
 pub record IsBehind

@@ -18,17 +18,17 @@ pub use Rattle.isa8080.specs.{Act.{act}, Arithmetic.{decrement_of, operate}, Fla
 unfoldable pub use Rattle.isa8080.specs.Step.{step_of}
 pub use Rattle.asm8080.proofs.{Calls.{IsPushed, one_below, pushed, pushed_is_memory, pushed_is_pushed, pushed_keeps, two_below}, Kept.{byte_kept, byte_put}, Loops.{counted_out, counts_on, one_less_is}, Stack.{pop_does, push_does}}
 pub use Rattle.asm8080.specs.{Items.{instruction_with, word_of}, Standing.{AgreesIn, Keeps, size_of_instruction}, declared.item.Item.{Item}, declared.item.Reference.{Reference, TheVariants.{AtLabel, AtTarget}}, declared.item.WordForm.{WordForm, TheVariants.{CallTo, JumpWhere, LoadPair, StoreA, StoreHl}}}
-pub use Rattle.treecode.specs.{Homes.{external_number, frame_number, frame_variable, is_global_procedure, kind_of, location_of, parameter_at, parameter_number, parameters_of, place_of_slot}, Known.{known_number, known_value}, Lowered.{HasBody, IsList, IsProcedure, ends_by, labels_numbered, labels_numbered_in_else, labels_numbered_in_list, labels_numbered_in_statements, numbers_from, reaches_end, reaches_end_of_else, reaches_end_of_list, reaches_end_of_statements}, Nodes.{Nodes, home_at, nodes_of}, Resolved.{HaveOperands, Resolves}, declared.lists.Range.{Range}, declared.module.TreeModule.{TreeModule}, declared.place.Home.{Home as TreeHome}, declared.place.Location.{Location, TheVariants.{Frame, Static}}, declared.place.Place.{Place, TheVariants.{Number}}, declared.procedure.FrameVariable.{FrameVariable}, declared.procedure.Parameter.{Parameter}, declared.procedure.ProcedureKind.{ProcedureKind}, declared.procedure.TreeProcedure.{TreeProcedure}}
+pub use Rattle.treecode.specs.{internal.Homes.{external_number, frame_number, frame_variable, is_global_procedure, kind_of, location_of, parameter_at, parameter_number, parameters_of, place_of_slot}, internal.Known.{known_number, known_value}, internal.Lowered.{HasBody, IsList, IsProcedure, ends_by, labels_numbered, labels_numbered_in_else, labels_numbered_in_list, labels_numbered_in_statements, numbers_from, reaches_end, reaches_end_of_else, reaches_end_of_list, reaches_end_of_statements}, internal.Nodes.{Nodes, home_at, nodes_of}, internal.Resolved.{HaveOperands, Resolves}, declared.lists.Range.{Range}, declared.module.TreeModule.{TreeModule}, declared.place.Home.{Home as TreeHome}, declared.place.Location.{Location, TheVariants.{Frame, Static}}, declared.place.Place.{Place, TheVariants.{Number}}, declared.procedure.FrameVariable.{FrameVariable}, declared.procedure.Parameter.{Parameter}, declared.procedure.ProcedureKind.{ProcedureKind}, declared.procedure.TreeProcedure.{TreeProcedure}}
 pub use Rattle.treecode_laws.proofs.Labels.{same_number}
 pub use Rattle.frames.proofs.{FrameBytes.{bytes_are, listed, object_fits, scalar_size}, Entries.{entries}, Frames.{parameter_count}, Homes.{home_in_data, home_in_frame}, Objects.{entry_is, lowered_framed}, Parameters.{frame_fits, framed, has_parameters, none_found, numbered_at}, Places.{ends_within}}
-pub use Rattle.frames.specs.{Frames.{IsPlanOf, bytes_by_parameter, distance_by_parameter, distance_in, distance_of, parameter_distance, return_distance, return_of, variable_bytes, word_distance}, declared.frame_plan.FramePlan.{FramePlan}, internal.Objects.{HasByte, ObjectsLie}}
-pub use Rattle.steps8080.specs.{Facts.{after, after_word, no_facts, with_facts}, Instructions.{clear_a}, Step.{label_of}, Writer.{word_item}, declared.facts.Facts.{Facts}, declared.step.LabelNumber.{LabelNumber}}
+pub use Rattle.frames.specs.{internal.Frames.{IsPlanOf, bytes_by_parameter, distance_by_parameter, distance_in, distance_of, parameter_distance, return_distance, return_of, variable_bytes, word_distance}, declared.frame_plan.FramePlan.{FramePlan}, internal.Objects.{HasByte, ObjectsLie}}
+pub use Rattle.steps8080.specs.{internal.Facts.{after, after_word, no_facts, with_facts}, internal.Instructions.{clear_a}, internal.Step.{label_of}, internal.Writer.{word_item}, declared.facts.Facts.{Facts}, declared.step.LabelNumber.{LabelNumber}}
 pub use Rattle.exprgen8080.specs.internal.Emission.{AreWritten, HoldsWritten, JumpWritten, MarkWritten, NoneWritten, PlainWritten, WordWritten, items_of_call, module_call_items}
-pub use Rattle.statements8080.specs.{Plans.{holds, jump, mark, plain}, declared.body.Body.{Body}, declared.plan.Planned.{Planned}}
+pub use Rattle.statements8080.specs.{internal.Plans.{holds, jump, mark, plain}, declared.body.Body.{Body}, declared.plan.Planned.{Planned}}
 pub use Rattle.statement_laws.specs.{internal.Generated.{AreCarriedOut, IsListCarriedOut, NoneCarriedOut, StepCarriedOut, site_of}, internal.GeneratedModules.{IsEndCode}, internal.GeneratedProcedures.{argument_facts, argument_step, entry_steps, is_address, pair_of, popped_argument_steps, return_steps, store_argument, with_argument}, Here.{Here}}
 unfoldable pub use Rattle.statement_laws.specs.{internal.Generated.{carried_steps, here_after, waiting_after}, internal.GeneratedProcedures.{below_return_steps, drop_steps, end_steps, entry_steps_by, exchanged_steps, frame_entry_steps, kept_steps, known_at, known_from, last_argument_facts, last_argument_steps, odd_byte_steps, popped_at, popped_from, pops_steps, push_loop_steps, pushed_arguments_steps, pushes_steps, return_of_frame_steps, return_over_any_steps, return_over_steps, return_steps_by, static_entry_steps, stores_steps, zero_result_steps, zeros_steps}}
 pub use Rattle.code_meaning.proofs.{Facts.After.{facts_after, facts_after_word}, Facts.Changes.{no_facts_hold, with_facts_hold}, Facts.Steady.{declared_is_steady, push_asks}, FirstItems.{jump_passed, jump_taken, plain_first, plain_step, word_first, word_step}, Landing.{after_paid_step, after_step, does_without_step, landed, then_does}, Numbers.{byte_as_low, differs_from_next, high_of_sum, high_of_two, low_of_sum, low_of_two}, Outcomes.{given_again}, Owning.{keeps_all, keeps_both, keeps_wider, owns_more}, Pushes.{keeps_pushed, push_keeps, ready_after_push}, Sequences.{AreThere, both_there}, Standing.{after_mark, after_plain, mark_lies}, Stores.{keeps_put, ready_with_variable}}
-pub use Rattle.code_meaning.specs.{Activations.{Activation, Arrives, FrameLies, IsReady, IsThere, IsVariable, LiesWell, Loaded, MayChange, Owns, PlacementLies, Shares, loaded_of}, Asking.{Asks, WordAsks}, Holding.{AddressHolds, ByteHolds, Distances, FactsHold, IsByteAt, IsSteady, IsWordAt, WordHolds, ZeroHolds, location_at, place_at}, Landing.{Does, IsHalted, IsLeft, Lands, at_place}}
+pub use Rattle.code_meaning.specs.{internal.Activations.{Activation, Arrives, FrameLies, IsReady, IsThere, IsVariable, LiesWell, Loaded, MayChange, Owns, PlacementLies, Shares, loaded_of}, internal.Asking.{Asks, WordAsks}, internal.Holding.{AddressHolds, ByteHolds, Distances, FactsHold, IsByteAt, IsSteady, IsWordAt, WordHolds, ZeroHolds, location_at, place_at}, Landing.{Does, IsHalted, IsLeft, Lands, at_place}}
 pub use Rattle.statement_laws.proofs.{CarriedOut.{carry_out}, Machine.Rules.{bytes_at_place, popped_bytes, ready_with_registers, word_acts}, Machine.SiteNodes.{have_operands, place_of_number}, Machine.Stages.{does_same, gives_then, then_does_where}, Ranges.NumbersOfTrees.{IsTypedCode, has_types}, Ranges.RangesOfCalls.{calls_fit}, Ranges.RangesOfStatements.{dropped_types}, Stores.Writing.{no_bytes_past_frame, sized_in_frame}}
 pub use Rattle.statement_laws.specs.{internal.CodeContexts.{ArgumentsLie, CallsDo, CallsFit, Context, FrameIsPlanned, InRegister, InWord, IsSound, ResultLies, RoutineIsAt, bytes_pushed, distances_in, nodes_in}, ProgramTypes.{HasTypes}, internal.Tasks.{Know}}
 pub use Rattle.statement_laws.proofs.{Together.{statements_do}, StatementItems.{list_stands}}

@@ -2,7 +2,7 @@
 use Rattle.program_laws.proofs.Prelude.{◌≡◌, ◌≢◌, ℕ, zero, suc, ◌+◌, ◌≤◌, Bool, true, List, [], ◌∷◌, ◌++◌, length, Some, refl, sym, ◌∙◌, subst, arith, slice_get, none-some, same_Some, Target, InSegment, ObjectModule, TypedModule, Program, Hlt, Sp, Item, LoadPair, Layout, Stands, stands_size, ProcedureKind, TreeProcedure, HasFrame, Activation, IsThere, both_there, Written, stack_end_item, AreCodeOf, AreRoutines, IsCodeOf, IsCodeOfMain, IsCodeOfRoutine, IsMainCode, IsProcedureCode, IsRoutineCode, all_routines, contents_items, has_main, RoutineIsAt, MainStands, ModuleCode, ProcedureStands, bare, LiesInMemory, module_layout, written_layout, IsSoundlyMade, zero-add}
 use Rattle.object_modules.specs.declared.segment.Segment.TheVariants as segments
 use Rattle.asm8080.specs.declared.item.Item.TheVariants as items
-use Rattle.runtime8080.specs.{declared.routine.Routine.{Routine}, Routines.{size_of_routine}}
+use Rattle.runtime8080.specs.{declared.routine.Routine.{Routine}, internal.Routines.{size_of_routine}}
 use Rattle.runtime8080.specs.declared.routine.Routine.TheVariants as routines
 use Rattle.treecode.specs.declared.procedure.ProcedureKind.TheVariants as kinds
 use Rattle.exprgen8080.specs.internal.Emission.{has_routine, index_of_routine, module_label_of_routine}

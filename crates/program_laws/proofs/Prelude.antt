@@ -19,16 +19,16 @@ pub use Rattle.isa8080.specs.{Code.{bytes_of}, State.{HoldBytes, Registers, Stat
 unfoldable pub use Rattle.isa8080.specs.Step.{state_after}
 pub use Rattle.asm8080.proofs.{Assemblies.{flags_length}, Fixing.{cells_of_items, fixed_items, row_of, set_of_items}, Kept.{stands_size}, CodeInParts.{bound_in_parts}, Segments.{places_length, set_length}, ItemWords.{item_length}}
 pub use Rattle.asm8080.specs.{Assembled.{Assembled, Assembles, fixed_bytes, fixes_of_items, layout_at, place_of, places_of, resolved, set_bytes}, Items.{Assembly, KnowsLabels, Layout, Stands, bytes_of_item, flags_of_items, instruction_with, is_bound, marks, offset_of, size_of, size_of_items, word_of}, Standing.{BytesStand, SetBytesStand}, declared.item.Item.{Item, TheVariants.{Address, Byte, Gap, Mark, Plain, WithWord}}, declared.item.Reference.{Reference, TheVariants.{AtLabel, AtNumber, AtTarget}}, declared.item.WordForm.TheVariants.{LoadPair}}
-pub use Rattle.treecode.specs.{Contents.{constant_object, constants_from, content_of, place_from, public_item, public_object, public_procedure, size_of_value, static_object, static_place, variables_from, with_constant, with_gap, with_gap_if_any, with_object}, Homes.{external_name, external_number, external_object, external_procedure, externals_of, home_of_object, homes_from, is_global_procedure, kind_of, number_of_place, place_after}, Known.{known_value, offset_of_list}, Lowered.{AreMoreStatements, AreNoStatements, AreStatements, HasBody, IsList, IsListOf, IsLowered, labels_numbered_in_list}, Nodes.{Nodes, home_at, nodes_of}, Resolved.{HaveOperands, Resolves}, declared.lists.Range.{Range}, declared.module.Content.{Content, TheVariants.{Word}}, declared.module.ExternalName.{ExternalName}, declared.module.PublicName.{PublicName}, declared.module.PublicPlace.{PublicPlace, TheVariants.{Procedure}}, declared.module.TreeModule.{TreeModule}, declared.place.Home.{Home, TheVariants.{Static}}, declared.place.Place.{Place, TheVariants.{Number}}, declared.procedure.ProcedureKind.{ProcedureKind}, declared.procedure.TreeProcedure.{TreeProcedure}}
-unfoldable pub use Rattle.treecode.specs.{Contents.{constants_of, publics_of, variables_of}, Homes.{homes_of}}
+pub use Rattle.treecode.specs.{internal.Contents.{constant_object, constants_from, content_of, place_from, public_item, public_object, public_procedure, size_of_value, static_object, static_place, variables_from, with_constant, with_gap, with_gap_if_any, with_object}, internal.Homes.{external_name, external_number, external_object, external_procedure, externals_of, home_of_object, homes_from, is_global_procedure, kind_of, number_of_place, place_after}, internal.Known.{known_value, offset_of_list}, internal.Lowered.{AreMoreStatements, AreNoStatements, AreStatements, HasBody, IsList, IsListOf, IsLowered, labels_numbered_in_list}, internal.Nodes.{Nodes, home_at, nodes_of}, internal.Resolved.{HaveOperands, Resolves}, declared.lists.Range.{Range}, declared.module.Content.{Content, TheVariants.{Word}}, declared.module.ExternalName.{ExternalName}, declared.module.PublicName.{PublicName}, declared.module.PublicPlace.{PublicPlace, TheVariants.{Procedure}}, declared.module.TreeModule.{TreeModule}, declared.place.Home.{Home, TheVariants.{Static}}, declared.place.Place.{Place, TheVariants.{Number}}, declared.procedure.ProcedureKind.{ProcedureKind}, declared.procedure.TreeProcedure.{TreeProcedure}}
+unfoldable pub use Rattle.treecode.specs.{internal.Contents.{constants_of, publics_of, variables_of}, internal.Homes.{homes_of}}
 pub use Rattle.treecode_laws.proofs.{Externals.{Finds, finds_external}, Homes.{any_lies, object_lies}, Lowered.{code_is, data_is, data_length_is}, Operands.{known_gives}, Slots.{data_offset, list_offset}}
-pub use Rattle.treecode_laws.specs.{Laid.{IsLaidOut, IsStored}, internal.Places.{IsStatic, KeepWords, location_of_place, name_at, places_of_contents}}
+pub use Rattle.treecode_laws.specs.{internal.Laid.{IsLaidOut, IsStored}, internal.Places.{IsStatic, KeepWords, location_of_place, name_at, places_of_contents}}
 pub use Rattle.frames.proofs.Homes.{earlier_kept}
-pub use Rattle.frames.specs.Frames.{HasFrame}
-pub use Rattle.steps8080.specs.{Externals.{Extends, entry}, Instructions.{high, low}, Writer.{Written, in_front, known_label, numbered, numbered_reference, place_of_known, place_of_label, stack_end_item}}
+pub use Rattle.frames.specs.internal.Frames.{HasFrame}
+pub use Rattle.steps8080.specs.{internal.Externals.{Extends, entry}, internal.Instructions.{high, low}, internal.Writer.{Written, in_front, known_label, numbered, numbered_reference, place_of_known, place_of_label, stack_end_item}}
 pub use Rattle.procedure_laws.specs.{internal.GeneratedModules.{AreCodeOf, ArePublicsOf, AreRoutines, AreTargets, IsAtPlace, IsCodeOf, IsCodeOfMain, IsCodeOfRoutine, IsGenerated, IsMainCode, IsNamed, IsOwnCode, IsProcedureCode, IsPublicOf, IsRoutineCode, IsSegmentOf, all_routines, contents_items, has_main, used_names}, Targets.{retargeted}}
 pub use Rattle.code_meaning.proofs.{Lawful.{placement_lies}, Sequences.{both_there}}
-pub use Rattle.code_meaning.specs.{Activations.{Activation, IsThere, Loaded, MayChange, Shares}, Holding.{place_at}, Landing.{IsHalted, IsLeft, at_place}}
+pub use Rattle.code_meaning.specs.{internal.Activations.{Activation, IsThere, Loaded, MayChange, Shares}, internal.Holding.{place_at}, Landing.{IsHalted, IsLeft, at_place}}
 pub use Rattle.procedure_laws.proofs.{SiteNodes.{have_operands}, NumbersOfTrees.{IsTypedCode, has_types, numbers_of_lowered}}
 pub use Rattle.procedure_laws.specs.{internal.CodeContexts.{RoutineIsAt}, ProgramTypes.{HasTypes}}
 pub use Rattle.procedure_laws.proofs.{KnownCalls.{calls_known}, OneModule.{does_by_others, module_does}}

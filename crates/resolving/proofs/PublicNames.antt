@@ -4,7 +4,7 @@ use Rattle.indexmap.specs.IndexMap.{insert_entry}
 use Rattle.symbols.specs.contracts.name.NamePartialEq.TheImpl.{eq-value}
 use Rattle.symbols.proofs.Keys.{same_keys}
 use Rattle.resolving.specs.declared.publics.Found.{Found}
-use Rattle.resolving.specs.Views.{found_view}
+use Rattle.resolving.specs.internal.Views.{found_view}
 
 pub found_some : (table : Table) (name : List ℕ) (found : Found)
     → Some found ≡ lookup (eq-value.it name) table → Some found ≡ lookup (bytes_eq name) table

@@ -1,3 +1,1 @@
-pub mod Views
-pub mod Storage
 pub mod internal

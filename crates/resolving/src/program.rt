@@ -30,7 +30,7 @@ impl<'a> Program<'a> {
     ghost use Rattle.layout.specs.Joined.{first_found, public_object_in, public_procedure_in};
     ghost use Rattle.join.specs.Views.{modules_of};
     ghost use Rattle.placing.specs.Views.{placement_view};
-    ghost use Rattle.resolving.specs.Views.{found_view, program_view};
+    ghost use Rattle.resolving.specs.internal.Views.{found_view, program_view};
 
     /// A joined program at a placement. Fails only if memory runs out for the names of its PUBLICs.
     pub fn new(

@@ -3,7 +3,7 @@
 ghost use Rattle.std.specs.Prelude.{◌≡◌};
 ghost use Rattle.typed_trees.specs.Views.{home_view, module_view};
 ghost use Rattle.meaning.specs.Access.{home_in};
-ghost use Rattle.resolving.specs.Storage.{storage_by};
+ghost use Rattle.resolving.specs.internal.Storage.{storage_by};
 
 use crate::program::Program;
 use crate::publics::Found;
@@ -57,8 +57,8 @@ impl<'a> Site<'a> {
     ghost use Rattle.layout.specs.StartingMemory.{address_in};
     ghost use Rattle.meaning.specs.Access.{address_of, home_of};
     ghost use Rattle.meaning.specs.Meaning.{address_of_list, callee_in};
-    ghost use Rattle.resolving.specs.Storage.{storage_by};
-    ghost use Rattle.resolving.specs.Views.{found_view, site_view};
+    ghost use Rattle.resolving.specs.internal.Storage.{storage_by};
+    ghost use Rattle.resolving.specs.internal.Views.{found_view, site_view};
     ghost use Rattle.resolving.specs.internal.Sites.{meant_at};
 
     /// How an object of the module is found; `Storage::Memory` if it has no object of that number.

@@ -1,7 +1,7 @@
 -- MOVE of the language is what the routine copies.
 use Rattle.runtime8080.proofs.Prelude.{◌≡◌, ℕ, zero, suc, ◌+◌, ◌%◌, ◌<◌, Bool, true, false, if◌then◌else◌, slice_set, refl, sym, ap, ◌∙◌, arith, MEMORY_SIZE, byte_at, wrap, UndeclaredByte, Constant, is_constant, is_declared, moved, Gave, Outcome, Outside, Stopped, then_do, IsInBlock}
 use Rattle.meaning.specs.Outcomes.{State}
-use Rattle.runtime8080.specs.Moves.{Copies, MoveCopies}
+use Rattle.runtime8080.specs.internal.Moves.{Copies, MoveCopies}
 
 abbrev state_of : Outcome (Unit {0}) → State
 state_of (Gave found s) = s

@@ -10,7 +10,7 @@ pub use Rattle.isa8080.proofs.Words.{equals_wrapped, high_of_wrapped, word_in_me
 pub use Rattle.isa8080.specs.{Flags.{bit, has_even_parity}, State.{HoldBytes, Registers, State, high_byte, pair_of, word, wrap}, declared.instr.Condition.TheVariants.{Carry, NoCarry, NotZero, ParityOdd, Zero}, declared.instr.IndexPair.TheVariants.{IndexDe}, declared.instr.Instr.{Instr, TheVariants.{Accumulate, AccumulateImmediate, Dad, Dcr, Inr, Inx, Ldax, Lxi, Mov, MovToMemory, Mvi, Ral, Rar, Ret, ReturnIf, Rlc, Rrc, Xchg}}, declared.instr.Operand.TheVariants.{Of}, declared.instr.Operation.TheVariants.{Add, And, Compare, ExclusiveOr, Or, Subtract, SubtractWithBorrow}, declared.instr.Pair.TheVariants.{Bc, De, Hl}, declared.instr.Register.TheVariants.{A, B, C, D, E, H, L}}
 pub use Rattle.asm8080.proofs.{Calls.{IsPushed, called, pushed, pushed_is_memory, pushed_is_pushed, pushed_keeps, returned_is}, ItemLemmas.{bound_more, unbound_from}, Kept.{Alike, byte_kept, byte_put, memory_put, stands_size, stands_still}, Loops.{counted, counted_out, counts_on, loop_after, loop_before, not_equal, not_zero, once_counted, one_less_is, steps_below, steps_counted, tested_after, tested_before, turns_below, turns_counted, word_is}, RunLaws.{comes_on}, Spending.{same_after}, Steps.{at, runs_from_instruction, goes_past, jumps_where, returned, returns, returns_where, stays_here, step_then}, Straight.{effect, past, past_later, plain, stands_after, steps_of, straight, touch_registers}}
 pub use Rattle.asm8080.specs.{Items.{Assembly, BindsNew, IsAssembly, KnowsLabels, Layout, ListsExternals, Stands, is_bound, marks, size_of_items}, Runs.{Comes}, Standing.{Keeps, below, size_of_instruction}, declared.item.Item.{Item, TheVariants.{Address, Byte, Gap, Mark, Plain, WithWord}}, declared.item.Reference.TheVariants.{AtLabel, AtNumber, AtTarget}, declared.item.WordForm.TheVariants.{JumpWhere}}
-pub use Rattle.runtime8080.specs.Routines.{AddsRoutine, BlockMisses, CALL_BYTES, Computes, HasOwnLabels, HasReturned, IsInBlock, IsRoutine, Leaves, LeavesBcAndHl, MayCall, Returns, copied, memory_after, most_steps, size_of_routine}
+pub use Rattle.runtime8080.specs.internal.Routines.{AddsRoutine, BlockMisses, CALL_BYTES, Computes, HasOwnLabels, HasReturned, IsInBlock, IsRoutine, Leaves, LeavesBcAndHl, MayCall, Returns, copied, memory_after, most_steps, size_of_routine}
 pub use Rattle.runtime8080.specs.declared.routine.Routine.{Routine}
 pub use Rattle.runtime8080.specs.internal.Emission.{FitItems, item_of, with_routine}
 unfoldable pub use Rattle.runtime8080.specs.internal.Emission.{Fits}

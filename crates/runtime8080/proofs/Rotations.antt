@@ -115,7 +115,7 @@ rotates :
     → Rotation routine turn f
     → (first : ℕ)
     → ((s : Rattle.isa8080.specs.State.State)
-    → Rattle.runtime8080.specs.Routines.memory_after routine s ≡ s.memory)
+    → Rattle.runtime8080.specs.internal.Routines.memory_after routine s ≡ s.memory)
     → IsRoutine routine (plain head (rest turn first))
 rotates routine turn f is first quiet layout from to script level s limit stands may =
     returns_quietly script routine from to level s may (quiet s)

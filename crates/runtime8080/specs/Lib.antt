@@ -1,3 +1,1 @@
-pub mod Routines
-pub mod Moves
 pub mod internal

@@ -3,7 +3,7 @@
 ghost use Rattle.std.specs.Prelude.{◌≡◌, IfOk, OnOk};
 ghost use Rattle.isa8080.specs.declared.instr.Instr.TheVariants.{Rlc, Rrc};
 ghost use Rattle.runtime8080.specs.declared.routine.Routine.TheVariants.{RotateLeft, RotateRight, ShiftLeftByte, ShiftRightByte, ShiftLeftAddress, ShiftRightAddress};
-ghost use Rattle.runtime8080.specs.Routines.{AddsRoutine};
+ghost use Rattle.runtime8080.specs.internal.Routines.{AddsRoutine};
 ghost use Rattle.runtime8080.specs.internal.Emission.{with_routine};
 
 use crate::moves::move_bytes;

@@ -1,6 +1,6 @@
 -- The main module: its number, and the code of a program.
 use Rattle.stack_compiler.proofs.Prelude.{◌≡◌, ℕ, ◌+◌, ◌<◌, ◌≤◌, Bool, true, false, cond, List, length, map, drop, get_or, None, Some, option_map, Result, ap, subst, sym, ◌∙◌, slice_get, IfOk, position_from, option_map_or, position_from-zero, slice_get-map, Typed, TypedModule, module_view, is_main, Placement, Program, number_of_main, Instruction, StackProgram, program_code, AreTablesOf, drop_item, at_drop_all}
-use Rattle.stack_compiler.specs.Compiled.{IsCompiled}
+use Rattle.stack_compiler.specs.internal.Compiled.{IsCompiled}
 use Rattle.stack_compiler.specs.internal.MainCode.{IsCodeOf}
 
 -- the number of the first main module from a number on, or 0

@@ -1,3 +1,5 @@
+-- Cited by other crates, private functions and proofs, and by no contract of the program or of a library.
+pub mod Compiled
 pub mod Sites
 pub mod Purposes
 pub mod ObjectParts

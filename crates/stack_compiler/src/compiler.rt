@@ -6,8 +6,8 @@ ghost use Rattle.layout.specs.Joined.{is_main};
 ghost use Rattle.meaning.specs.Run.{number_of_main};
 ghost use Rattle.join.specs.Views.{modules_of};
 ghost use Rattle.placing.specs.Views.{placement_view};
-ghost use Rattle.stack_code.specs.Code.{program_code};
-ghost use Rattle.stack_compiler.specs.Compiled.{IsCompiled};
+ghost use Rattle.stack_code.specs.internal.Code.{program_code};
+ghost use Rattle.stack_compiler.specs.internal.Compiled.{IsCompiled};
 ghost use Rattle.stack_compiler.specs.internal.MainCode.{IsCodeOf};
 
 use crate::marking::{Marks, StackMark};

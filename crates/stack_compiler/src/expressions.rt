@@ -6,7 +6,7 @@ ghost use Rattle.trees.specs.declared.declaration.ScalarType.TheVariants.{Addres
 ghost use Rattle.typed_trees.specs.Views.{arguments_view, expression_view, reference_view, subscript_view, target_view};
 ghost use Rattle.meaning.specs.Meaning.{callee_in};
 ghost use Rattle.stack_code.specs.declared.instruction.Instruction.TheVariants.{Drop};
-ghost use Rattle.stack_code.specs.Code.{ToRead, added_to_bytes, arguments_code, called_code, expression_code, index_code, instruction_after, number_in, operator_code, reference_code, scaled_code, summed, surroundings_at, target_code, variable_code};
+ghost use Rattle.stack_code.specs.internal.Code.{ToRead, added_to_bytes, arguments_code, called_code, expression_code, index_code, instruction_after, number_in, operator_code, reference_code, scaled_code, summed, surroundings_at, target_code, variable_code};
 ghost use Rattle.stack_compiler.specs.internal.ObjectParts.{based_code, bytes_code, framed_code, lacks_subscripts, placed_code};
 ghost use Rattle.stack_compiler.specs.internal.Purposes.{purpose_view};
 ghost use Rattle.stack_compiler.specs.internal.Sites.{site_view};

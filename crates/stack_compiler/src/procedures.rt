@@ -4,7 +4,7 @@ ghost use Rattle.std.specs.Prelude.{◌≡◌, ◌++◌, map, OnOk};
 ghost use Rattle.typed_trees.specs.Views.{module_view, procedure_view};
 ghost use Rattle.placing.specs.Views.{placement_view};
 ghost use Rattle.meaning.specs.Access.{home_of};
-ghost use Rattle.stack_code.specs.Code.{main_code, parameter_code, parameters_code, procedure_code, surroundings_at};
+ghost use Rattle.stack_code.specs.internal.Code.{main_code, parameter_code, parameters_code, procedure_code, surroundings_at};
 ghost use Rattle.stack_compiler.specs.internal.Sequences.{modules_code_from, procedures_code_from};
 ghost use Rattle.stack_compiler.specs.internal.Sites.{site_view};
 

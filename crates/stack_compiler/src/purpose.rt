@@ -2,7 +2,7 @@
 
 ghost use Rattle.std.specs.Prelude.{◌≡◌, ◌++◌, [], ◌∷◌, OnOk};
 ghost use Rattle.typed_trees.specs.Views.{subscript_view};
-ghost use Rattle.stack_code.specs.Code.{frame_subscript, instruction_after, instruction_at, instruction_of_frame, part_of, whole_in_frame};
+ghost use Rattle.stack_code.specs.internal.Code.{frame_subscript, instruction_after, instruction_at, instruction_of_frame, part_of, whole_in_frame};
 ghost use Rattle.stack_compiler.specs.internal.Purposes.{purpose_view};
 
 use stack_code::{FramePart, FrameSubscript, Instruction};

@@ -15,9 +15,9 @@ impl<'a> Site<'a> {
     ghost use Rattle.std.specs.Prelude.{◌≡◌, option_map};
     ghost use Rattle.meaning.specs.Access.{address_of, home_of};
     ghost use Rattle.meaning.specs.Meaning.{address_of_list, callee_in};
-    ghost use Rattle.resolving.specs.Storage.{storage_by};
-    ghost use Rattle.resolving.specs.Views.{found_view, site_view as surroundings_view};
-    ghost use Rattle.stack_code.specs.Code.{surroundings_at};
+    ghost use Rattle.resolving.specs.internal.Storage.{storage_by};
+    ghost use Rattle.resolving.specs.internal.Views.{found_view, site_view as surroundings_view};
+    ghost use Rattle.stack_code.specs.internal.Code.{surroundings_at};
     ghost use Rattle.stack_compiler.specs.internal.Sites.{site_view};
 
     // The module, with the meaning of its names and numbers.

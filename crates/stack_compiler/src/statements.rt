@@ -5,7 +5,7 @@ ghost use Rattle.typed_trees.specs.TypedTrees.{IterateStatement};
 ghost use Rattle.typed_trees.specs.Views.{arguments_view, else_view, expression_view, iteration_view, list_view, statement_view, statements_view, target_view};
 ghost use Rattle.meaning.specs.Meaning.{callee_in};
 ghost use Rattle.stack_code.specs.declared.instruction.Instruction.TheVariants.{Case, Drop, Jump, Move, Return};
-ghost use Rattle.stack_code.specs.Code.{arguments_code, called_code, cases_code, choice_code, count_of_arguments, count_of_statements, else_code, entries_code, expression_code, first_code, last_code, list_code, loop_code, statement_code, statements_code, step_code, surroundings_at, targets_code, value_or};
+ghost use Rattle.stack_code.specs.internal.Code.{arguments_code, called_code, cases_code, choice_code, count_of_arguments, count_of_statements, else_code, entries_code, expression_code, first_code, last_code, list_code, loop_code, statement_code, statements_code, step_code, surroundings_at, targets_code, value_or};
 ghost use Rattle.stack_compiler.specs.internal.Loops.{stepping_code, turned_back};
 ghost use Rattle.stack_compiler.specs.internal.Openings.{opened, opening, passing};
 ghost use Rattle.stack_compiler.specs.internal.Sites.{site_view};

@@ -2,7 +2,7 @@
 
 ghost use Rattle.std.specs.Prelude.{◌≡◌, [], suc, map, IfOk, OnOk};
 ghost use Rattle.typed_trees.specs.Views.{module_view, procedure_view};
-ghost use Rattle.stack_code.specs.Program.{AreTablesOf};
+ghost use Rattle.stack_code.specs.internal.Program.{AreTablesOf};
 ghost use Rattle.stack_compiler.specs.internal.Rows.{empty_row, entry_begun, first_of, noted, noted_all, padded, row_begun, row_labelled, row_view, started_entry, started_row, updated, with_label};
 
 use stack_code::{Entry, Instruction, ModuleTable};

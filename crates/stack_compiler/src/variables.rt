@@ -3,7 +3,7 @@
 ghost use Rattle.std.specs.Prelude.{◌≡◌, ◌+◌, ◌%◌};
 ghost use Rattle.mem80.specs.declared.memory.TheConstants.{MEMORY_SIZE};
 ghost use Rattle.meaning.specs.Access.{address_of, home_of};
-ghost use Rattle.stack_code.specs.Code.{surroundings_at, variable_code};
+ghost use Rattle.stack_code.specs.internal.Code.{surroundings_at, variable_code};
 ghost use Rattle.stack_compiler.specs.internal.Purposes.{purpose_view};
 ghost use Rattle.stack_compiler.specs.internal.Sites.{site_view};
 

@@ -1,2 +1,2 @@
-pub mod Runs
+pub mod FailedCalls
 pub mod internal

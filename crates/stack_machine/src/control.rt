@@ -1,7 +1,7 @@
 //! What the tables have for labels and procedures.
 
 ghost use Rattle.std.specs.Prelude.{◌≡◌};
-ghost use Rattle.stack_code.specs.Program.{entry_in, label_in};
+ghost use Rattle.stack_code.specs.internal.Program.{entry_in, label_in};
 
 use stack_code::{Entry, ModuleTable};
 

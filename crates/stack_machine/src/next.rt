@@ -1,7 +1,7 @@
 //! On to the next instruction.
 
 ghost use Rattle.std.specs.Prelude.{◌∷◌, ◌<◌, IfOk};
-ghost use Rattle.stack_code.specs.Machine.{below};
+ghost use Rattle.stack_code.specs.internal.Machine.{below};
 ghost use Rattle.stack_machine.specs.internal.Next.{IsNext, IsNextOrStop};
 
 use crate::end::SourceEnd;

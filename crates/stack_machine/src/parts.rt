@@ -1,7 +1,7 @@
 //! Parts of the frame.
 
 ghost use Rattle.std.specs.Prelude.{◌≡◌};
-ghost use Rattle.stack_code.specs.Machine.{top, without_index, without_indices};
+ghost use Rattle.stack_code.specs.internal.Machine.{top, without_index, without_indices};
 ghost use Rattle.stack_machine.specs.internal.FrameParts.{IsDisplacement, IsPart};
 
 use crate::values::Values;

@@ -4,9 +4,9 @@ ghost use Rattle.std.specs.Prelude.{◌≡◌, IfErr, IfOk, OnErr, OnOk};
 ghost use Rattle.typed_trees.specs.Views.{module_view};
 ghost use Rattle.placing.specs.Views.{placement_view};
 ghost use Rattle.declared.specs.Access.{AreKindsOf, modules_in};
-ghost use Rattle.stack_code.specs.Program.{AreTablesOf};
-ghost use Rattle.stack_code.specs.Run.{stack_run, start_surroundings};
-ghost use Rattle.stack_machine.specs.Runs.{FaultCounts, Reaches, ReachesFault, Stops, state_at_start, stop_of};
+ghost use Rattle.stack_code.specs.internal.Program.{AreTablesOf};
+ghost use Rattle.stack_code.specs.internal.Run.{stack_run, start_surroundings};
+ghost use Rattle.stack_machine.specs.internal.Runs.{FaultCounts, Reaches, ReachesFault, Stops, state_at_start, stop_of};
 
 use crate::calls::Calls;
 use crate::end::{RunFault, SourceEnd};

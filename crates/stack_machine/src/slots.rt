@@ -2,7 +2,7 @@
 
 ghost use Rattle.std.specs.Prelude.{◌≡◌, IfOk, map};
 ghost use Rattle.declared.specs.Access.{modules_in};
-ghost use Rattle.declared.specs.Frames.{module_frames};
+ghost use Rattle.declared.specs.internal.Frames.{module_frames};
 
 use declared::FrameSlots;
 use join::Joined;

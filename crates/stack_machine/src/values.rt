@@ -1,7 +1,7 @@
 //! A stack of values.
 
 ghost use Rattle.std.specs.Prelude.{◌≡◌, [], ◌∷◌, ◌<◌, OnOk, drop, length, slice_index};
-ghost use Rattle.stack_code.specs.Machine.{below, top};
+ghost use Rattle.stack_code.specs.internal.Machine.{below, top};
 
 use std::alloc::{AllocError, Global};
 use std::marker::Model;

@@ -7,8 +7,8 @@ pub use Rattle.layout.specs.Joined.{InProgram, is_main}
 unfoldable pub use Rattle.layout.specs.StartingMemory.{starting_memory}
 pub use Rattle.meaning.specs.{Access.{InMemory, InTheFrame, Place, Surroundings, home_of, is_constant, is_declared, next_place, place_of, read_byte, read_scalar, write_byte, write_scalar}, Meaning.{IterateTurn, Later, Turn, WhileTurn, after_turn, based_place, called, called_for, callee_in, caught_in, charged, computed, displacement, done, done_all, done_case, done_else, done_list, dropped, entered, frame_of, going_on, iterated, landed, later_by, located, moved, next_turn, parameters_set, procedure_at, read_variable, rest_from, rest_of, returned, step_value, stored, stored_in_each, turn_of, value, values, write_variable}, Outcomes.{Flow, Gave, Jumped, More, Onward, Outcome, Outside, Program, Returned, State, Stopped, taking_one, then_do}, Run.{main_done, number_of_main, run_of}, Values.{as_type, is_true, result_of, values_of}, declared.reason.Reason.TheVariants.{Stack}}
 unfoldable pub use Rattle.meaning.specs.Run.{source_run}
-pub use Rattle.resolving.specs.Views.{program_view, site_view}
-pub use Rattle.call_graphs.specs.{Chains.{Body, HasCycle, IsChain, callees_of, charge_in, charges_of_chain, end_of_chain}, Needs.{capped}, Views.{body_view}}
+pub use Rattle.resolving.specs.internal.Views.{program_view, site_view}
+pub use Rattle.call_graphs.specs.{Chains.{Body, HasCycle, IsChain, callees_of, charge_in, charges_of_chain, end_of_chain}, internal.Needs.{capped}, internal.Views.{body_view}}
 pub use Rattle.stack_need.specs.{CallGraph.{bodies_from, body_of, first_numbers, main_body, number_of_body, procedure_called}, Calls.{calls_in, calls_in_arguments, calls_in_else, calls_in_iteration, calls_in_list, calls_in_optional, calls_in_reference, calls_in_statement, calls_in_statements, calls_in_subscript, calls_in_target, calls_in_targets}, internal.{Graph.{callee_at, main_from, modules_at}, Within.{Holds, HoldsAll, HoldsCall, HoldsTurn, IsNotStack, LaterStays, StaysWithin}}}
 unfoldable pub use Rattle.stack_need.specs.CallGraph.{call_graph}
-unfoldable pub use Rattle.call_graphs.specs.Needs.{Answers}
+unfoldable pub use Rattle.call_graphs.specs.internal.Needs.{Answers}

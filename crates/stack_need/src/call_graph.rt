@@ -3,11 +3,11 @@
 ghost use Rattle.std.specs.Prelude.{◌≡◌, ◌+◌, ◌++◌, filter_map, map, slice_index, IfOk, OnOk};
 ghost use Rattle.typed_trees.specs.Views.{module_view, procedure_view};
 ghost use Rattle.layout.specs.Joined.{is_main};
-ghost use Rattle.resolving.specs.Views.{program_view, site_view};
+ghost use Rattle.resolving.specs.internal.Views.{program_view, site_view};
 ghost use Rattle.stack_need.specs.CallGraph.{bodies_from, body_of as body_of_procedure, call_graph as graph_of, first_numbers, main_body as body_of_main};
 ghost use Rattle.stack_need.specs.internal.Graph.{callee_at, main_from, modules_at};
-ghost use Rattle.call_graphs.specs.Needs.{capped};
-ghost use Rattle.call_graphs.specs.Views.{body_view};
+ghost use Rattle.call_graphs.specs.internal.Needs.{capped};
+ghost use Rattle.call_graphs.specs.internal.Views.{body_view};
 
 use crate::calls::calls_in;
 use call_graphs::Body;

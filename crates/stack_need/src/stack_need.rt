@@ -3,7 +3,7 @@
 ghost use Rattle.std.specs.Prelude.{map, IfOk};
 ghost use Rattle.typed_trees.specs.Views.{module_view};
 ghost use Rattle.join.specs.Views.{modules_of};
-ghost use Rattle.resolving.specs.Views.{program_view};
+ghost use Rattle.resolving.specs.internal.Views.{program_view};
 ghost use Rattle.stack_need.specs.StackNeed.{TellsNeed};
 
 use crate::call_graph::call_graph;

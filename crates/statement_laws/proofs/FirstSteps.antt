@@ -3,7 +3,7 @@ use Rattle.statement_laws.proofs.Prelude.{◌≡◌, ℕ, ◌+◌, Bool, if◌th
 use Rattle.asm8080.specs.declared.item.Item.TheVariants as items
 use Rattle.steps8080.specs.declared.step.Step.TheVariants as steps
 use Rattle.statements8080.specs.declared.plan.Planned.TheVariants as planned
-use Rattle.statements8080.specs.Plans.{plain}
+use Rattle.statements8080.specs.internal.Plans.{plain}
 
 -- planned steps stand, where the statements and lists in them do what they say
 abbrev pub Stand : BodyContext → Here → (waiting : Option Facts) → (from : ℕ) → List Planned

@@ -5,7 +5,7 @@ use Rattle.asm8080.specs.declared.item.Item.TheVariants as items
 use Rattle.treecode.specs.declared.procedure.ProcedureKind.TheVariants as kinds
 use Rattle.treecode.specs.declared.statement.Statement.TheVariants as statements
 use Rattle.statements8080.specs.declared.plan.Planned.TheVariants as planned
-use Rattle.statements8080.specs.Plans.{plain}
+use Rattle.statements8080.specs.internal.Plans.{plain}
 use Rattle.statement_laws.proofs.FirstSteps.{Stand, going, part_first, plain_first}
 use Rattle.statement_laws.proofs.Outcomes.{Between}
 use Rattle.statement_laws.proofs.Simple.{FormDoes}

@@ -1,5 +1,1 @@
-pub mod Plans
-pub mod Bodies
-pub mod SamePlaces
-pub mod Counters
 pub mod internal

@@ -1,7 +1,7 @@
 //! Assignments.
 
 ghost use Rattle.std.specs.Prelude.{◌≡◌, OnOk};
-ghost use Rattle.statements8080.specs.Plans.{PlanAdds};
+ghost use Rattle.statements8080.specs.internal.Plans.{PlanAdds};
 ghost use Rattle.statements8080.specs.internal.Assignments.{assignment_steps, byte_steps, count_of, each_steps, from_byte_steps, from_type, from_word_steps, is_address_first, is_one, is_quiet_subscript, is_value_of, number_steps, several_steps, single_steps, stores_steps, takes_word, together_steps, types_of, word_steps};
 
 use crate::body::Body;

@@ -1,7 +1,7 @@
 //! The bodies of procedures and main programs.
 
 ghost use Rattle.std.specs.Prelude.{◌≡◌};
-ghost use Rattle.statements8080.specs.Bodies.{body_label, is_near, whole};
+ghost use Rattle.statements8080.specs.internal.Bodies.{body_label, is_near, whole};
 
 use exprgen8080::LabelNumber;
 use frames::FramePlan;

@@ -1,7 +1,7 @@
 //! The test of an iterative DO: whether its variable is at most its bound.
 
 ghost use Rattle.std.specs.Prelude.{◌≡◌, OnOk};
-ghost use Rattle.statements8080.specs.Plans.{PlanAdds};
+ghost use Rattle.statements8080.specs.internal.Plans.{PlanAdds};
 ghost use Rattle.statements8080.specs.internal.Tests.{byte_below_steps, byte_below_word_steps, facts_of_test, frame_word_below_steps, known_test, place_below_steps, test_of, test_steps, word_at, word_below_steps, word_test};
 
 use crate::iteration::{Counter, plan_less};

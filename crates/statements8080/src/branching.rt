@@ -2,7 +2,7 @@
 
 ghost use Rattle.std.specs.Prelude.{◌≡◌, OnOk};
 ghost use Rattle.steps8080.specs.declared.step.Task.TheVariants as tasks;
-ghost use Rattle.statements8080.specs.Plans.{PlanAdds, PlanAddsWithLabels};
+ghost use Rattle.statements8080.specs.internal.Plans.{PlanAdds, PlanAddsWithLabels};
 ghost use Rattle.statements8080.specs.internal.Branches.{either_labels, either_steps, forever_steps, goto_label, has_one_jump, if_labels, if_steps, inner, may_jump_twice, statement_if_any, tested_if_labels, tested_if_steps, tested_while_steps, then_steps, while_labels, while_steps};
 
 use crate::body::Body;

@@ -1,7 +1,7 @@
 //! DO CASE.
 
 ghost use Rattle.std.specs.Prelude.{◌≡◌, OnOk};
-ghost use Rattle.statements8080.specs.Plans.{PlanAdds, PlanAddsWithLabels};
+ghost use Rattle.statements8080.specs.internal.Plans.{PlanAdds, PlanAddsWithLabels};
 ghost use Rattle.statements8080.specs.internal.Cases.{byte_choice_steps, case_labels, case_steps, cases_end_steps, choice_at_steps, choice_labels, choice_steps, entry_of, into_table_steps, number_in_de_steps, statement_at, statements_steps, table_at, table_steps, word_choice_steps};
 
 use crate::body::Body;

@@ -1,8 +1,8 @@
 //! Iterative DO.
 
 ghost use Rattle.std.specs.Prelude.{◌≡◌, OnOk};
-ghost use Rattle.statements8080.specs.Plans.{PlanAdds, PlanAddsWithLabels, TakesLabels, free_label};
-ghost use Rattle.statements8080.specs.Counters.{address_fact, counter_place, counts_by_one, first_value, has_a_turn, word_fact};
+ghost use Rattle.statements8080.specs.internal.Plans.{PlanAdds, PlanAddsWithLabels, TakesLabels, free_label};
+ghost use Rattle.statements8080.specs.internal.Counters.{address_fact, counter_place, counts_by_one, first_value, has_a_turn, word_fact};
 ghost use Rattle.statements8080.specs.internal.Tests.{less_steps};
 ghost use Rattle.statements8080.specs.internal.Iterations.{add_byte_steps, add_de_in_frame_steps, add_de_steps, add_word_steps, add_word_to_byte_steps, asked_jump, asked_mark, asked_test_steps, count_steps, facts_of_turn, first_steps, first_test_steps, general_begin_steps, general_end_steps, general_steps, is_byte, is_byte_type, iteration_labels, iteration_steps, loop_labels, next_byte_steps, next_turn_steps, next_word_steps, step_in_de_steps, step_steps, sum_of_byte_steps, sum_of_word_steps, test_label_steps, to_known_steps, turns_labels, turns_steps};
 
@@ -104,7 +104,7 @@ fn is_byte_type(scalar: ScalarType) -> bool
 }
 
 // Whether there is a first turn, if known.
-#[tactic(auto, unfolding(crate::specs::Counters::has_a_turn))]
+#[tactic(auto, unfolding(crate::specs::internal::Counters::has_a_turn))]
 fn has_a_turn(site: &Site<'_>, counter: &Counter, head: &Iteration) -> Option<bool>
     ensures { result ≡ has_a_turn site.now counter.now head.now }
 {

@@ -1,7 +1,7 @@
 //! CALL MOVE.
 
 ghost use Rattle.std.specs.Prelude.{OnOk};
-ghost use Rattle.statements8080.specs.Plans.{PlanAdds};
+ghost use Rattle.statements8080.specs.internal.Plans.{PlanAdds};
 ghost use Rattle.statements8080.specs.internal.Moves.{ends_steps, known_move_steps, move_steps};
 
 use crate::plan::{Plan, Planned};

@@ -1,8 +1,8 @@
 //! Planned code of statements.
 
 ghost use Rattle.std.specs.Prelude.{◌≡◌, ◌∷◌, [], length, replicate, slice_get, take, OnOk};
-ghost use Rattle.steps8080.specs.Step.{label_of};
-ghost use Rattle.statements8080.specs.Plans.{PlanAdds, TakesLabels, all, free_label, holds, jump, label_at, mark, part, plain, word};
+ghost use Rattle.steps8080.specs.internal.Step.{label_of};
+ghost use Rattle.statements8080.specs.internal.Plans.{PlanAdds, TakesLabels, all, free_label, holds, jump, label_at, mark, part, plain, word};
 
 use asm8080::WordForm;
 use exprgen8080::{Facts, LabelNumber, Part, Step, Task};

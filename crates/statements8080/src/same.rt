@@ -1,7 +1,7 @@
 //! References to the same place, found by a simple comparison.
 
 ghost use Rattle.std.specs.Prelude.{◌≡◌};
-ghost use Rattle.statements8080.specs.SamePlaces.{are_same, are_same_leaf, are_same_scalar, are_same_subscript, are_same_subscripts, scalar_at, unconverted};
+ghost use Rattle.statements8080.specs.internal.SamePlaces.{are_same, are_same_leaf, are_same_scalar, are_same_subscript, are_same_subscripts, scalar_at, unconverted};
 
 use exprgen8080::Site;
 use treecode::{ExpressionForm, ExpressionNumber, Location, Reference, Subscript};

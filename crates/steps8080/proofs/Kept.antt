@@ -1,9 +1,9 @@
 -- The queries about an expression return its traits.
 use Rattle.steps8080.proofs.Prelude.{◌≡◌, Option, Some, None, ap, option_map_or}
-use Rattle.treecode.specs.{declared.expression.Expression.{Expression}, declared.expression.ExpressionNumber.{ExpressionNumber}, declared.traits.Traits.{Traits}, Nodes.{nodes_of}, Queries.{inside, low_byte_at}, Traits.{no_traits, traits_at}}
+use Rattle.treecode.specs.{declared.expression.Expression.{Expression}, declared.expression.ExpressionNumber.{ExpressionNumber}, declared.traits.Traits.{Traits}, internal.Nodes.{nodes_of}, internal.Queries.{inside, low_byte_at}, internal.Traits.{no_traits, traits_at}}
 use Rattle.steps8080.specs.declared.sites.site.Site.{Site}
-use Rattle.steps8080.specs.Queries.{is_free, is_quiet, keeps, known, same_low_byte, stores_nothing}
-use Rattle.steps8080.specs.Site.{expression, scalar}
+use Rattle.steps8080.specs.internal.Queries.{is_free, is_quiet, keeps, known, same_low_byte, stores_nothing}
+use Rattle.steps8080.specs.internal.Site.{expression, scalar}
 
 kept :
     {A : Type 0} (of : Traits → A) (found : Option Expression) (traits : Traits)

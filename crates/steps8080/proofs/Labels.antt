@@ -1,8 +1,8 @@
 -- Labels of code with flags of their places, and the code that changes them.
 use Rattle.steps8080.proofs.Prelude.{◌≡◌, ◌==◌, ℕ, zero, suc, ◌+◌, ◌-◌, ◌<◌, ◌≤◌, Bool, true, false, not, List, [], ◌∷◌, ◌++◌, length, map, replicate, set, take, IsTrue, slice_index_or, Option, Some, None, if◌then◌else◌, unwrap_or, refl, sym, subst, ap, ◌∙◌, arith, ◌≢◌, ◌⊎◌, inl, inr, length-set, lt-ltb, list_any-append, Assembly, KeepsMarks, is_bound, marks, known_label, or_from, not_equal}
 use Rattle.asm8080.specs.Items.{BindsSame, BindsSameBut}
-use Rattle.runtime8080.specs.{declared.routine.Routine.{Routine}, Routines.{AddsRoutine}}
-use Rattle.steps8080.specs.Externals.{Extends, entry}
+use Rattle.runtime8080.specs.{declared.routine.Routine.{Routine}, internal.Routines.{AddsRoutine}}
+use Rattle.steps8080.specs.internal.Externals.{Extends, entry}
 use Rattle.steps8080.specs.internal.Labels.{AreKept, AreOfCode}
 use Rattle.steps8080.proofs.Numbered.{different_set, entry_of_set, nothing_there}
 

@@ -1,6 +1,6 @@
 -- Items with the code's numbers for labels and names: numbers that were given before stay.
 use Rattle.steps8080.proofs.Prelude.{◌≡◌, ℕ, zero, suc, ◌+◌, ◌<◌, ◌==◌, ◌⊎◌, inl, inr, Bool, true, false, ◌||◌, List, [], ◌∷◌, ◌++◌, length, min, replicate, set, arith, refl, ap, sym, subst, ◌∙◌, append_assoc, append-nil, Option, Some, None, option_map, unwrap_or, eq-eqb, list_any-append, InSegment, External, Item, Plain, WithWord, Byte, Address, Gap, Mark, Reference, AtLabel, AtTarget, AtNumber, Assembly, BoundOnce, is_bound, marks, AreWritable, KeepsMarks, MarksOnly, NumbersNames, Written, Writes, in_front, is_marked, numbered, numbered_item, numbered_reference, use_name, uses_name}
-use Rattle.steps8080.specs.Externals.{AddsOnly, AreDifferent, Extends, IsNumbering, entries, entry}
+use Rattle.steps8080.specs.internal.Externals.{AddsOnly, AreDifferent, Extends, IsNumbering, entries, entry}
 
 -- a value that is found stays found
 map_stays :

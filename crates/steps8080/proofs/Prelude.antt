@@ -4,6 +4,6 @@ pub use Rattle.std.specs.{Option.{option_map_or}, Prelude.{Option, Some, if◌th
 pub use Rattle.object_modules.specs.declared.segment.Target.TheVariants.{External, InSegment}
 pub use Rattle.asm8080.proofs.Loops.{not_equal}
 pub use Rattle.asm8080.specs.{Assembled.{IsFinished}, Items.{Assembly, BoundOnce, IsAssembly, is_bound, marks}, declared.fault.Fault.{Fault}, declared.item.Item.{Item, TheVariants.{Address, Byte, Gap, Mark, Plain, WithWord}}, declared.item.Reference.{Reference, TheVariants.{AtLabel, AtNumber, AtTarget}}}
-pub use Rattle.steps8080.specs.Step.{plain, repeat_steps}
-pub use Rattle.steps8080.specs.Widths.{power_from}
-pub use Rattle.steps8080.specs.Writer.{AreWritable, KeepsMarks, MarksOnly, NumbersNames, Writes, Written, in_front, is_marked, known_label, numbered, numbered_item, numbered_reference, use_name, uses_name}
+pub use Rattle.steps8080.specs.internal.Step.{plain, repeat_steps}
+pub use Rattle.steps8080.specs.internal.Widths.{power_from}
+pub use Rattle.steps8080.specs.internal.Writer.{AreWritable, KeepsMarks, MarksOnly, NumbersNames, Writes, Written, in_front, is_marked, known_label, numbered, numbered_item, numbered_reference, use_name, uses_name}

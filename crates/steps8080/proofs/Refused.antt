@@ -3,7 +3,7 @@ use Rattle.steps8080.proofs.Prelude.{◌≡◌, Bool, List, Result, Err, Ok, sub
 use Rattle.asm8080.specs.Assembled.{Assembled}
 use Rattle.failure.specs.{declared.Failure.{Failure}, Failure.{IfFault}}
 use Rattle.failure.specs.declared.Failure.TheVariants as failures
-use Rattle.steps8080.specs.Writer.{Finishes}
+use Rattle.steps8080.specs.internal.Writer.{Finishes}
 use Rattle.steps8080.specs.internal.Labels.{AreKept}
 use Rattle.steps8080.proofs.Labels.{all_known}
 

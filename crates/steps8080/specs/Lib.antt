@@ -1,10 +1,1 @@
-pub mod Instructions
-pub mod Facts
-pub mod Step
-pub mod Externals
-pub mod Writer
 pub mod internal
-pub mod Site
-pub mod Queries
-pub mod Widths
-pub mod Questions

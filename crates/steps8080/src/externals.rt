@@ -1,7 +1,7 @@
 //! The EXTERNAL names that code refers to.
 
 ghost use Rattle.std.specs.Prelude.{◌≡◌, None, Some, length, replicate, IfOk, IfSome};
-ghost use Rattle.steps8080.specs.Externals.{AddsOnly, Extends, IsNumbering, entry};
+ghost use Rattle.steps8080.specs.internal.Externals.{AddsOnly, Extends, IsNumbering, entry};
 
 use std::alloc::{AllocError, Global};
 use std::marker::Model;
@@ -16,7 +16,7 @@ pub struct Externals {
 
 impl Model for Externals {
     ghost use Rattle.std.specs.Prelude.{◌<◌, ℕ, List, Option};
-    ghost use Rattle.steps8080.specs.Externals.{IsNumbering};
+    ghost use Rattle.steps8080.specs.internal.Externals.{IsNumbering};
 
     ghost Value = { List (Option ℕ) };
 

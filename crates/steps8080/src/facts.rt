@@ -2,7 +2,7 @@
 
 ghost use Rattle.std.specs.Prelude.{◌≡◌};
 ghost use Rattle.std.specs.Option.{option_or};
-ghost use Rattle.steps8080.specs.Facts.{after, after_count, after_form, after_move, after_move_to_memory, after_operation, after_operation_with, after_other, after_pop, after_word, before, byte_for_l, byte_from_hl, holds_byte, is_at, no_facts, origin, with_facts, without_a, without_hl, without_memory, without_operand, without_pair, without_register, without_zero};
+ghost use Rattle.steps8080.specs.internal.Facts.{after, after_count, after_form, after_move, after_move_to_memory, after_operation, after_operation_with, after_other, after_pop, after_word, before, byte_for_l, byte_from_hl, holds_byte, is_at, no_facts, origin, with_facts, without_a, without_hl, without_memory, without_operand, without_pair, without_register, without_zero};
 
 use crate::instructions::{copy, load};
 use asm8080::WordForm;

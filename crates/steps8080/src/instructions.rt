@@ -1,8 +1,8 @@
 //! Instructions named by what they do, and the halves of a word.
 
 ghost use Rattle.std.specs.Prelude.{◌≡◌, OnOk};
-ghost use Rattle.steps8080.specs.Instructions.{clear_a, copy, high, load, low, set, with_memory, with_register};
-ghost use Rattle.steps8080.specs.Step.{Adds, extension_steps, repeat_steps};
+ghost use Rattle.steps8080.specs.internal.Instructions.{clear_a, copy, high, load, low, set, with_memory, with_register};
+ghost use Rattle.steps8080.specs.internal.Step.{Adds, extension_steps, repeat_steps};
 
 use crate::step::Steps;
 use isa8080::{Instr, Operand, Operation, Register};

@@ -89,7 +89,7 @@ pub struct Steps {
 impl Steps {
     ghost use Rattle.std.specs.Prelude.{◌≡◌, [], ◌∷◌, OnOk, length, slice_get, take};
     ghost use Rattle.steps8080.specs.declared.step.Step.TheVariants.{Plain, Word, Jump, Mark};
-    ghost use Rattle.steps8080.specs.Step.{Adds, label_after, label_of, part, plain};
+    ghost use Rattle.steps8080.specs.internal.Step.{Adds, label_after, label_of, part, plain};
 
     /// No steps, with `labels` labels in use.
     pub fn new(alloc: Global, labels: u32) -> Steps

@@ -8,9 +8,9 @@ ghost use Rattle.object_modules.specs.declared.segment.Target.TheVariants.{Exter
 ghost use Rattle.object_modules.specs.Module.{is_movable};
 ghost use Rattle.asm8080.specs.Assembled.{IsFinished};
 ghost use Rattle.asm8080.specs.Items.{size_of_items};
-ghost use Rattle.steps8080.specs.Externals.{Extends, entry};
-ghost use Rattle.steps8080.specs.Instructions.{high, low};
-ghost use Rattle.steps8080.specs.Writer.{Finishes, KeepsMarks, Writes, WritesRoutine, address_items, external_call_item, jump_item, place_of_known, stack_end_item, word_item};
+ghost use Rattle.steps8080.specs.internal.Externals.{Extends, entry};
+ghost use Rattle.steps8080.specs.internal.Instructions.{high, low};
+ghost use Rattle.steps8080.specs.internal.Writer.{Finishes, KeepsMarks, Writes, WritesRoutine, address_items, external_call_item, jump_item, place_of_known, stack_end_item, word_item};
 
 use crate::externals::Externals;
 use crate::step::LabelNumber;
@@ -35,7 +35,7 @@ pub struct Writer {
 }
 
 impl Model for Writer {
-    ghost use Rattle.steps8080.specs.Writer.{Written};
+    ghost use Rattle.steps8080.specs.internal.Writer.{Written};
     ghost use Rattle.steps8080.specs.internal.Labels.{AreKept};
 
     ghost Value = { Written };

@@ -1,8 +1,8 @@
 //! The code of expressions, each carried out by itself.
 
 ghost use Rattle.std.specs.Prelude.{IfSome};
-ghost use Rattle.treecode.specs.Nodes.{nodes_of};
-ghost use Rattle.treecode.specs.Rising.{NumbersRise};
+ghost use Rattle.treecode.specs.internal.Nodes.{nodes_of};
+ghost use Rattle.treecode.specs.internal.Rising.{NumbersRise};
 
 use crate::page::Page;
 use crate::runs::put_bytes;

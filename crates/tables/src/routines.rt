@@ -132,7 +132,7 @@ after the call what it was before. These two bytes lie outside the routine and, 
 destination does not overlap the routine. Registers that are not named as changed stay as they were.
 
 Steps are instructions executed, with the CALL and the return, and not clock states. What a routine gives and changes, and the
-steps that are promised, are proved of every call (`Returns` in `crates/runtime8080/specs/Routines.antt`). The other steps were
+steps that are promised, are proved of every call (`Returns` in `crates/runtime8080/specs/internal/Routines.antt`). The other steps were
 counted: of 400 calls with each pair of 20 words, the edges; of 10,000 calls with random arguments; and, by bytes, of 10,000
 more whose DE is below 256. Addresses in the listings count from the first byte: where a routine lies elsewhere, its address is
 added to the word of each jump.

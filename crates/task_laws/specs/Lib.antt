@@ -1,4 +1,3 @@
-pub mod Conditions
 pub mod CallingConvention
 pub mod ProgramTypes
 pub mod internal

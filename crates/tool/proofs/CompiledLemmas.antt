@@ -1,7 +1,7 @@
 -- Sources that are compiled, one by one.
 use Rattle.tool.proofs.Prelude.{◌≡◌, Err, Ok, ℕ, ◌+◌, ◌<◌, ◌≤◌, List, [], ◌∷◌, ◌++◌, length, drop, get_or, arith, refl, sym, ap, ◌∙◌, subst, add-one, append-nil, append_assoc, ⊎_elim, drop_of_length-le, drop-cons, cases_lt, get_or-map, length-map, IsErrAnd, Result, TypedModule, ObjectModule, Storage, storage_with, Plan, HasReadCause, IsSourceOf, IsSoundTreeCode, MakesNone, OfItsModule, IsSoundlyMade, IsSoundlyTyped, text_of, texts_of, Compiled, ToolFault, TooManySources, Source, Code, Program, Link, Locate, IsCompiledTo, AreWithoutFault, HasCause, IsInOrder, HasNoObject, IsRefusedAlone, IsWithoutFault, AreCompiled, HasCompileCause, HasGenerationCause, HasSource, HasSourceCause, IsCompiled, IsNotCompiled, failure_of_code, keeps_contract, module_in}
 use Rattle.failure.specs.{Failure.{IfFault}, declared.Failure.{Failure, TheVariants.{Fault, Memory}}}
-use Rattle.treecode.specs.{declared.module.TreeModule.{TreeModule}, Lowered.{IsLowered}}
+use Rattle.treecode.specs.{declared.module.TreeModule.{TreeModule}, internal.Lowered.{IsLowered}}
 use Rattle.codegen8080.specs.internal.Names.{IsLinkable}
 use Rattle.codegen8080.specs.declared.fault.Fault as code_fault
 unfoldable use Rattle.generation.specs.internal.TreeCode.{KeepsNames}

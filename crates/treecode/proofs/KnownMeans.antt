@@ -2,7 +2,7 @@
 use Rattle.treecode.proofs.Prelude.{◌≡◌, ℕ, ◌+◌, ◌-◌, ◌%◌, ◌<◌, ◌&&◌, List, Option, Some, None, option_map, refl, sym, ap, ◌∙◌, arith, length, option_and_then, mul-mod_second, ScalarType, Byte, Address, BinaryOperator, UnaryOperator, ShiftFunction, UnaryFunction, Low, High, Double, type_of, type_of_function, type_of_result, TypedExpression, NumberNode, ValueNode, LocationNode, ListNode, ConversionNode, AssignmentNode, UnaryNode, BinaryNode, CallNode, FunctionNode, ShiftNode, InputNode, TypedReference, PartOf, Subscript, NoSubscript, At, Storage, Surroundings, home_of, Displacement, Later, address_in_memory, based_place, computed, displaced, displacement, located, no_displacement, value, State, Outcome, Gave, then_do, as_type, function_of, result_of, result_of_one, shifted, Home, Place, Number, Code, Data, External, place_after, converted_place, function_of_place, known_distance, known_number, known_place, known_subscript, known_value, place_of_part, result_of_known, shift_of_known, home_at, mul_comm, sum_turned}
 use Rattle.trees.specs.declared.expression.BinaryOperator.TheVariants as operators
 use Rattle.treecode.specs.declared.place.Home.TheVariants as homes
-use Rattle.treecode.specs.Resolved.{Resolves, HaveOperands, SubscriptHasOperands, PartHasOperands}
+use Rattle.treecode.specs.internal.Resolved.{Resolves, HaveOperands, SubscriptHasOperands, PartHasOperands}
 
 -- a relocatable address is an ADDRESS
 abbrev IsAddress : Place → ScalarType → Type 0

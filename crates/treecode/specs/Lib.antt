@@ -1,14 +1,3 @@
 pub use Rattle.layout.specs.Sound
 pub use Rattle.layout.specs.Storage
-pub mod HomeWords
-pub mod ExpressionWords
-pub mod Nodes
-pub mod Homes
-pub mod Known
-pub mod Traits
-pub mod Queries
-pub mod Contents
-pub mod Rising
-pub mod Lowered
-pub mod Resolved
 pub mod internal

@@ -1,3 +1,15 @@
+-- Cited by other crates, private functions and proofs, and by no contract of the program or of a library.
+pub mod HomeWords
+pub mod ExpressionWords
+pub mod Nodes
+pub mod Homes
+pub mod Known
+pub mod Traits
+pub mod Queries
+pub mod Contents
+pub mod Rising
+pub mod Lowered
+pub mod Resolved
 pub mod Growth
 pub mod Numbers
 pub mod Adding

@@ -3,8 +3,8 @@
 ghost use Rattle.std.specs.Prelude.{◌≡◌, ◌-◌, [], ◌∷◌, ◌++◌, map, sum_by, IfOk, OnOk};
 ghost use Rattle.typed_trees.specs.Views.{module_view, object_view};
 ghost use Rattle.treecode.specs.declared.module.Content.TheVariants.{Byte};
-ghost use Rattle.treecode.specs.Contents.{constants_of, constant_object, content_of, size_of_value, static_object, variables_of, with_constant, with_gap, with_gap_if_any, with_object};
-ghost use Rattle.treecode.specs.Nodes.{nodes_of};
+ghost use Rattle.treecode.specs.internal.Contents.{constants_of, constant_object, content_of, size_of_value, static_object, variables_of, with_constant, with_gap, with_gap_if_any, with_object};
+ghost use Rattle.treecode.specs.internal.Nodes.{nodes_of};
 
 use crate::lowering::capped;
 use crate::module::{Content, TreeModule};
@@ -181,7 +181,7 @@ fn add_constant(
 
 /// The contents at the start of the code segment: the objects with DATA and the constant lists, in the order of the
 /// text.
-#[tactic(auto, unfolding(crate::specs::Contents::constants_of))]
+#[tactic(auto, unfolding(crate::specs::internal::Contents::constants_of))]
 pub(crate) fn constants_of(
     alloc: Global,
     tree: &TreeModule,
@@ -200,7 +200,7 @@ pub(crate) fn constants_of(
 }
 
 /// The contents of the data segment: the objects without AT and DATA, in the order of their declarations.
-#[tactic(auto, unfolding(crate::specs::Contents::variables_of))]
+#[tactic(auto, unfolding(crate::specs::internal::Contents::variables_of))]
 pub(crate) fn variables_of(
     alloc: Global,
     tree: &TreeModule,

@@ -1,8 +1,8 @@
 //! The effects of evaluating an expression.
 
 ghost use Rattle.std.specs.Prelude.{◌≡◌, ◌&&◌};
-ghost use Rattle.treecode.specs.Nodes.{nodes_of};
-ghost use Rattle.treecode.specs.Traits.{is_quiet_form, quiet_at, reference_is_quiet, reference_stores_nothing, stores_nothing_in_form, storing_nothing_at, subscript_is_quiet, subscript_stores_nothing};
+ghost use Rattle.treecode.specs.internal.Nodes.{nodes_of};
+ghost use Rattle.treecode.specs.internal.Traits.{is_quiet_form, quiet_at, reference_is_quiet, reference_stores_nothing, stores_nothing_in_form, storing_nothing_at, subscript_is_quiet, subscript_stores_nothing};
 
 use crate::expression::{ExpressionForm, ExpressionNumber};
 use crate::module::TreeModule;

@@ -3,7 +3,7 @@
 ghost use Rattle.std.specs.Prelude.{◌≡◌, IfOk, OnOk};
 ghost use Rattle.typed_trees.specs.Views.{arguments_view, expression_view, reference_view, subscript_view, target_view};
 ghost use Rattle.layout.specs.Views.{layout_view};
-ghost use Rattle.treecode.specs.Nodes.{nodes_of};
+ghost use Rattle.treecode.specs.internal.Nodes.{nodes_of};
 ghost use Rattle.treecode.specs.internal.Adding.{arguments_in, expression_in, form_in, reference_in, subscript_in, target_in};
 ghost use Rattle.treecode.specs.internal.Beside.{beside};
 

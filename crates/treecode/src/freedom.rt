@@ -1,8 +1,8 @@
 //! Expressions with a low byte that is computed in A alone.
 
 ghost use Rattle.std.specs.Prelude.{◌≡◌};
-ghost use Rattle.treecode.specs.Nodes.{nodes_of};
-ghost use Rattle.treecode.specs.Traits.{has_immediate, is_direct, is_free_of, is_free_with, is_of_low_byte};
+ghost use Rattle.treecode.specs.internal.Nodes.{nodes_of};
+ghost use Rattle.treecode.specs.internal.Traits.{has_immediate, is_direct, is_free_of, is_free_with, is_of_low_byte};
 
 use crate::expression::{ExpressionForm, ExpressionNumber};
 use crate::known::place_of;

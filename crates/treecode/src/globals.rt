@@ -2,9 +2,9 @@
 
 ghost use Rattle.std.specs.Prelude.{◌≡◌, IfOk, OnOk};
 ghost use Rattle.typed_trees.specs.Views.{module_view, object_view, procedure_view};
-ghost use Rattle.treecode.specs.Contents.{public_item, public_object, public_procedure, publics_of, static_place};
-ghost use Rattle.treecode.specs.Homes.{external_object, external_procedure};
-ghost use Rattle.treecode.specs.Nodes.{nodes_of};
+ghost use Rattle.treecode.specs.internal.Contents.{public_item, public_object, public_procedure, publics_of, static_place};
+ghost use Rattle.treecode.specs.internal.Homes.{external_object, external_procedure};
+ghost use Rattle.treecode.specs.internal.Nodes.{nodes_of};
 ghost use Rattle.treecode.specs.internal.Gathered.{all_gathered, gathered_view, none_gathered, with_index_of_name, with_name};
 
 use crate::module::{ExternalName, PublicName, PublicPlace, TreeModule, next_index};
@@ -180,7 +180,7 @@ fn public_item(tree: &TreeModule, typed: &Typed, item: GlobalItem) -> Option<Pub
 }
 
 /// The PUBLIC names of a module, in the order of the text.
-#[tactic(auto, unfolding(crate::specs::Contents::publics_of))]
+#[tactic(auto, unfolding(crate::specs::internal::Contents::publics_of))]
 pub(crate) fn publics_of(
     alloc: Global,
     tree: &TreeModule,

@@ -1,8 +1,8 @@
 //! Heights of expressions, as the stack charge counts them; they saturate at 65,535.
 
 ghost use Rattle.std.specs.Prelude.{◌≡◌};
-ghost use Rattle.treecode.specs.Nodes.{nodes_of};
-ghost use Rattle.treecode.specs.Traits.{height_at, height_of_argument, height_of_call, height_of_form, height_of_reference, height_of_subscript, height_of_target};
+ghost use Rattle.treecode.specs.internal.Nodes.{nodes_of};
+ghost use Rattle.treecode.specs.internal.Traits.{height_at, height_of_argument, height_of_call, height_of_form, height_of_reference, height_of_subscript, height_of_target};
 
 use crate::expression::{ExpressionForm, ExpressionNumber};
 use crate::lists::Range;

@@ -3,7 +3,7 @@
 ghost use Rattle.std.specs.Prelude.{◌≡◌, [], map, None, slice_index_or, IfOk, OnOk};
 ghost use Rattle.typed_trees.specs.Views.{module_view, object_view, procedure_view};
 ghost use Rattle.layout.specs.Views.{layout_view};
-ghost use Rattle.treecode.specs.Homes.{external_place, home_after, location_of, place_of_slot};
+ghost use Rattle.treecode.specs.internal.Homes.{external_place, home_after, location_of, place_of_slot};
 ghost use Rattle.treecode.specs.internal.Numbers.{number_in};
 ghost use Rattle.treecode.specs.internal.Placed.{all_placed, headings_after, headings_of, home_in, placed_in, variable_of, with_all_parameters, with_parameters, with_placed};
 

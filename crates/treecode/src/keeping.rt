@@ -1,8 +1,8 @@
 //! The registers that code keeps while it puts something into HL.
 
 ghost use Rattle.std.specs.Prelude.{◌≡◌};
-ghost use Rattle.treecode.specs.Nodes.{nodes_of};
-ghost use Rattle.treecode.specs.Traits.{keeps_of, keeps_of_address, keeps_of_binary, keeps_of_byte, keeps_of_extended, keeps_of_shift, keeps_of_subscript, keeps_of_sum, keeps_of_value, keeps_with_base, number_at, traits_at};
+ghost use Rattle.treecode.specs.internal.Nodes.{nodes_of};
+ghost use Rattle.treecode.specs.internal.Traits.{keeps_of, keeps_of_address, keeps_of_binary, keeps_of_byte, keeps_of_extended, keeps_of_shift, keeps_of_subscript, keeps_of_sum, keeps_of_value, keeps_with_base, number_at, traits_at};
 
 use crate::expression::{ExpressionForm, ExpressionNumber};
 use crate::known::place_of;

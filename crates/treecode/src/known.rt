@@ -2,9 +2,9 @@
 
 ghost use Rattle.std.specs.Prelude.{◌≡◌};
 ghost use Rattle.std.specs.Option.{option_and_then};
-ghost use Rattle.treecode.specs.Known.{converted_place, function_of_place, result_of_known, result_of_place};
-ghost use Rattle.treecode.specs.Nodes.{nodes_of};
-ghost use Rattle.treecode.specs.Traits.{distance_of, known_at, known_of, place_of_reference};
+ghost use Rattle.treecode.specs.internal.Known.{converted_place, function_of_place, result_of_known, result_of_place};
+ghost use Rattle.treecode.specs.internal.Nodes.{nodes_of};
+ghost use Rattle.treecode.specs.internal.Traits.{distance_of, known_at, known_of, place_of_reference};
 
 use crate::expression::{ExpressionForm, ExpressionNumber};
 use crate::module::TreeModule;

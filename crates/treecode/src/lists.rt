@@ -1,7 +1,7 @@
 //! Lists of numbers, each in a table of its module.
 
 ghost use Rattle.std.specs.Prelude.{◌≡◌};
-ghost use Rattle.treecode.specs.Nodes.{entry_of};
+ghost use Rattle.treecode.specs.internal.Nodes.{entry_of};
 
 /// Consecutive entries of a table.
 #[derive(Clone, Copy)]

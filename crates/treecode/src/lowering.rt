@@ -4,9 +4,9 @@ ghost use Rattle.std.specs.Prelude.{None, ◌≡◌, ◌+◌, ◌%◌, min, [], 
 ghost use Rattle.typed_trees.specs.Jumps.{JumpsAreSound};
 ghost use Rattle.typed_trees.specs.Views.{module_view};
 ghost use Rattle.layout.specs.Views.{layout_view};
-ghost use Rattle.treecode.specs.Known.{offset_of_list};
-ghost use Rattle.treecode.specs.Homes.{externals_of, homes_of};
-ghost use Rattle.treecode.specs.Lowered.{IsLowered};
+ghost use Rattle.treecode.specs.internal.Known.{offset_of_list};
+ghost use Rattle.treecode.specs.internal.Homes.{externals_of, homes_of};
+ghost use Rattle.treecode.specs.internal.Lowered.{IsLowered};
 ghost use Rattle.treecode.specs.declared.procedure.ProcedureKind.TheVariants.{Static};
 ghost use Rattle.treecode.specs.internal.Beside.{outside, walk_of};
 ghost use Rattle.treecode.specs.internal.Completed.{BodiesAreAdded};

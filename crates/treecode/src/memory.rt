@@ -1,8 +1,8 @@
 //! Expressions with a low byte that is in memory.
 
 ghost use Rattle.std.specs.Prelude.{◌≡◌};
-ghost use Rattle.treecode.specs.Nodes.{nodes_of};
-ghost use Rattle.treecode.specs.Traits.{high_in_memory, memory_of_form, same_low_byte};
+ghost use Rattle.treecode.specs.internal.Nodes.{nodes_of};
+ghost use Rattle.treecode.specs.internal.Traits.{high_in_memory, memory_of_form, same_low_byte};
 
 use crate::expression::{ExpressionForm, ExpressionNumber};
 use crate::module::TreeModule;

@@ -1,8 +1,8 @@
 //! Modules of tree code.
 
 ghost use Rattle.std.specs.Prelude.{◌≡◌, IfOk};
-ghost use Rattle.treecode.specs.ExpressionWords.{ExpressionsAreWords};
-ghost use Rattle.treecode.specs.HomeWords.{HomesAreWords};
+ghost use Rattle.treecode.specs.internal.ExpressionWords.{ExpressionsAreWords};
+ghost use Rattle.treecode.specs.internal.HomeWords.{HomesAreWords};
 
 use crate::expression::{Expression, ExpressionForm, ExpressionNumber};
 use crate::lists::{Range, entry};
@@ -76,9 +76,9 @@ pub struct TreeModule {
 
 impl TreeModule {
     ghost use Rattle.std.specs.Prelude.{◌≡◌, [], ◌∷◌, ◌++◌, length, slice_get, IfOk, OnOk};
-    ghost use Rattle.treecode.specs.Nodes.{home_at, item_of, nodes_of};
-    ghost use Rattle.treecode.specs.Queries.{low_byte_at};
-    ghost use Rattle.treecode.specs.Traits.{expression_of, number_at, traits_at};
+    ghost use Rattle.treecode.specs.internal.Nodes.{home_at, item_of, nodes_of};
+    ghost use Rattle.treecode.specs.internal.Queries.{low_byte_at};
+    ghost use Rattle.treecode.specs.internal.Traits.{expression_of, number_at, traits_at};
 
     /// The home of an object; the address 0 if there is no object with this number.
     pub fn home(&self, object: u32) -> Home

@@ -36,7 +36,7 @@ pub enum Home {
 
 impl Place {
     ghost use Rattle.std.specs.Prelude.{◌≡◌};
-    ghost use Rattle.treecode.specs.Homes.{number_of_place, place_after};
+    ghost use Rattle.treecode.specs.internal.Homes.{number_of_place, place_after};
 
     /// The place `distance` bytes further on, modulo 65536.
     pub fn after(self, distance: u16) -> Place
@@ -66,7 +66,7 @@ impl Place {
 
 impl Location {
     ghost use Rattle.std.specs.Prelude.{◌≡◌};
-    ghost use Rattle.treecode.specs.Homes.{location_after};
+    ghost use Rattle.treecode.specs.internal.Homes.{location_after};
 
     /// The location `distance` bytes further on, modulo 65536.
     pub fn after(self, distance: u16) -> Location

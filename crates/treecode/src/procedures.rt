@@ -4,8 +4,8 @@ ghost use Rattle.std.specs.Prelude.{◌≡◌, ◌++◌, map, zip, length, IfOk,
 ghost use Rattle.typed_trees.specs.Jumps.{BodyIsSound};
 ghost use Rattle.typed_trees.specs.Views.{list_view, procedure_view};
 ghost use Rattle.layout.specs.Views.{layout_view};
-ghost use Rattle.treecode.specs.Homes.{kind_with, parameter_at};
-ghost use Rattle.treecode.specs.Nodes.{nodes_of};
+ghost use Rattle.treecode.specs.internal.Homes.{kind_with, parameter_at};
+ghost use Rattle.treecode.specs.internal.Nodes.{nodes_of};
 ghost use Rattle.treecode.specs.internal.Beside.{outside, walk_of};
 ghost use Rattle.treecode.specs.internal.Completed.{AreComplete, BodiesAreSound, IsBody, MainIsComplete, completed, with_body, with_main};
 ghost use Rattle.treecode.specs.internal.Placed.{heading_in, heading_of, headings_in, headings_of};

@@ -1,7 +1,7 @@
 //! References to objects and parts of objects, and targets of assignments.
 
 ghost use Rattle.std.specs.Prelude.{◌≡◌};
-ghost use Rattle.treecode.specs.Queries.{source};
+ghost use Rattle.treecode.specs.internal.Queries.{source};
 
 use crate::expression::ExpressionNumber;
 use trees::ScalarType;

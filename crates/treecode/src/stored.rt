@@ -2,7 +2,7 @@
 
 ghost use Rattle.std.specs.Prelude.{◌≡◌};
 ghost use Rattle.treecode.specs.declared.expression.ExpressionForm.TheVariants.{Assignment};
-ghost use Rattle.treecode.specs.Queries.{inside};
+ghost use Rattle.treecode.specs.internal.Queries.{inside};
 ghost use Rattle.treecode.specs.internal.Stored.{form_of, keeps_in, reference_of, subscript_of, traits_in};
 
 use crate::expression::{Expression, ExpressionForm, ExpressionNumber};

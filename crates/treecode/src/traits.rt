@@ -1,8 +1,8 @@
 //! Traits of an expression, stored so that its parts need not be visited again.
 
 ghost use Rattle.std.specs.Prelude.{◌≡◌};
-ghost use Rattle.treecode.specs.Nodes.{nodes_of};
-ghost use Rattle.treecode.specs.Traits.{traits_of};
+ghost use Rattle.treecode.specs.internal.Nodes.{nodes_of};
+ghost use Rattle.treecode.specs.internal.Traits.{traits_of};
 
 use crate::effects::{is_quiet, stores_nothing};
 use crate::expression::ExpressionForm;
@@ -43,7 +43,7 @@ pub struct Traits {
 
 impl Keeps {
     ghost use Rattle.std.specs.Prelude.{◌≡◌};
-    ghost use Rattle.treecode.specs.Traits.{keeps_both, keeps_none};
+    ghost use Rattle.treecode.specs.internal.Traits.{keeps_both, keeps_none};
 
     /// Both registers are kept.
     pub(crate) fn both() -> Keeps
@@ -65,7 +65,7 @@ impl Keeps {
 
 impl Traits {
     ghost use Rattle.std.specs.Prelude.{◌≡◌};
-    ghost use Rattle.treecode.specs.Traits.{no_traits};
+    ghost use Rattle.treecode.specs.internal.Traits.{no_traits};
 
     /// Nothing is known.
     pub(crate) fn none() -> Traits
@@ -84,7 +84,7 @@ impl Traits {
 }
 
 /// The traits of an expression of this type and form. Its parts have been added to the module.
-#[tactic(auto, unfolding(crate::specs::Traits::traits_of))]
+#[tactic(auto, unfolding(crate::specs::internal::Traits::traits_of))]
 pub(crate) fn traits_of(tree: &TreeModule, scalar: ScalarType, form: &ExpressionForm) -> Traits
     ensures { result ≡ traits_of (nodes_of tree.now) scalar form.now }
 {

@@ -3,7 +3,7 @@ use Rattle.std.proofs.{Common.{◌≡◌, ◌≢◌, ◌⊎◌, inl, inr, ℕ, z
 use Rattle.std.specs.Prelude.{AllPairs, flat_map}
 use Rattle.typed_trees.specs.Jumps.{IsNoLabel, JumpsAreSound, LabelsStand, ListStands, ListsStand, ListsStandInCases, ListsStandInElse, ListsStandInStatements, labels_in, labels_in_else, labels_in_list, labels_in_module, labels_in_procedure, labels_in_statements}
 use Rattle.typed_trees.specs.TypedTrees.{TypedModule, TypedProcedure, TypedStatement, LabelStatement, NullStatement, AssignmentStatement, CallStatement, MoveStatement, ReturnStatement, HaltStatement, GotoStatement, IfStatement, DoStatement, WhileStatement, IterateStatement, CaseStatement, TypedElse, NoElse, ElseStatement, TypedStatements, NoStatements, MoreStatements, TypedList, ListOf}
-use Rattle.treecode.specs.Lowered.{labels_numbered, labels_numbered_in_else, labels_numbered_in_list, labels_numbered_in_statements, numbers_from}
+use Rattle.treecode.specs.internal.Lowered.{labels_numbered, labels_numbered_in_else, labels_numbered_in_list, labels_numbered_in_statements, numbers_from}
 
 -- how often a number stands in a list
 abbrev once : Bool → ℕ

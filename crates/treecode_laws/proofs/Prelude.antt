@@ -11,9 +11,9 @@ pub use Rattle.layout.specs.{Segments.{Absolute, After, Location, Places, Segmen
 unfoldable pub use Rattle.layout.specs.Storage.{storage_of}
 pub use Rattle.meaning.specs.{Access.{InMemory, InTheFrame, Surroundings, frame_bytes, home_of, is_declared, next_place, place_in, place_of, read_byte, read_scalar}, Meaning.{Later, address_in_memory, address_of_list, based_place, computed, displaced, displacement, located, no_displacement, taken_in, value}, Outcomes.{Ended, Gave, More, Outcome, Outside, Program, State, Stopped, then_do}, Values.{as_type, function_of, result_of, result_of_one, shifted}, declared.reason.Reason.TheVariants.{Byte as UndeclaredByte, Divide}}
 pub use Rattle.treecode.proofs.{KeptValues.{known_kept, known_of_node, node_traits}, KnownMeans.{known_value_tells}, SameTraits.{same_of_both}}
-pub use Rattle.treecode.specs.{Contents.{constant_object, constants_from, content_of, place_from, public_item, public_object, size_of_value as bytes_of_value, static_object, static_place, variables_from, with_constant, with_gap, with_gap_if_any, with_object}, Homes.{external_from, external_name, external_number, external_object, external_place, externals_of, home_after, home_of_object, homes_from, is_global_object, latest, number_of_place, place_after, place_of_slot}, Known.{known_value, offset_of_list, place_of_part}, Lowered.{IsAbsent, IsBinary, IsCallOf, IsConstantList, IsConversion, IsEmbedded, IsExpression, IsForm, IsFunction, IsIndex, IsInput, IsLocation, IsLowered, IsNode, IsNumber, IsPart, IsReference, IsShift, IsSubscript, IsUnary, IsValue}, Nodes.{Nodes, home_at, nodes_of}, Resolved.{HaveOperands, Resolves}, Traits.{KeepTraits, byte_after, distance_of, free_at, has_immediate, is_direct, is_free_form, is_free_of, is_free_with, is_of_low_byte, is_quiet_form, known_at, known_of, number_at, place_of_reference, quiet_at, reference_is_quiet, reference_stores_nothing, stores_nothing_in_form, storing_nothing_at, subscript_is_quiet, subscript_stores_nothing}, declared.expression.Expression.{Expression}, declared.expression.ExpressionForm.{ExpressionForm}, declared.expression.ExpressionNumber.{ExpressionNumber}, declared.module.Content.{Content, TheVariants.{Gap, Word}}, declared.module.ExternalName.{ExternalName as External, ExternalName}, declared.module.PublicName.{PublicName}, declared.module.TreeModule.{TreeModule}, declared.place.Home.{Home}, declared.place.Place.{Place, TheVariants.{Number}}, declared.reference.Reference.{Reference}, declared.reference.Subscript.{Subscript as IndexNode}, declared.traits.Traits.{Traits}}
-unfoldable pub use Rattle.treecode.specs.{Contents.{constants_of, variables_of}, Homes.{homes_of}, Traits.{traits_of}}
-pub use Rattle.treecode_laws.specs.Laid.{IsLaidOut, IsStored}
+pub use Rattle.treecode.specs.{internal.Contents.{constant_object, constants_from, content_of, place_from, public_item, public_object, size_of_value as bytes_of_value, static_object, static_place, variables_from, with_constant, with_gap, with_gap_if_any, with_object}, internal.Homes.{external_from, external_name, external_number, external_object, external_place, externals_of, home_after, home_of_object, homes_from, is_global_object, latest, number_of_place, place_after, place_of_slot}, internal.Known.{known_value, offset_of_list, place_of_part}, internal.Lowered.{IsAbsent, IsBinary, IsCallOf, IsConstantList, IsConversion, IsEmbedded, IsExpression, IsForm, IsFunction, IsIndex, IsInput, IsLocation, IsLowered, IsNode, IsNumber, IsPart, IsReference, IsShift, IsSubscript, IsUnary, IsValue}, internal.Nodes.{Nodes, home_at, nodes_of}, internal.Resolved.{HaveOperands, Resolves}, internal.Traits.{KeepTraits, byte_after, distance_of, free_at, has_immediate, is_direct, is_free_form, is_free_of, is_free_with, is_of_low_byte, is_quiet_form, known_at, known_of, number_at, place_of_reference, quiet_at, reference_is_quiet, reference_stores_nothing, stores_nothing_in_form, storing_nothing_at, subscript_is_quiet, subscript_stores_nothing}, declared.expression.Expression.{Expression}, declared.expression.ExpressionForm.{ExpressionForm}, declared.expression.ExpressionNumber.{ExpressionNumber}, declared.module.Content.{Content, TheVariants.{Gap, Word}}, declared.module.ExternalName.{ExternalName as External, ExternalName}, declared.module.PublicName.{PublicName}, declared.module.TreeModule.{TreeModule}, declared.place.Home.{Home}, declared.place.Place.{Place, TheVariants.{Number}}, declared.reference.Reference.{Reference}, declared.reference.Subscript.{Subscript as IndexNode}, declared.traits.Traits.{Traits}}
+unfoldable pub use Rattle.treecode.specs.{internal.Contents.{constants_of, variables_of}, internal.Homes.{homes_of}, internal.Traits.{traits_of}}
+pub use Rattle.treecode_laws.specs.internal.Laid.{IsLaidOut, IsStored}
 pub use Rattle.treecode_laws.specs.internal.Evaluations.{AddsAtMost, Answer, AreAlike, AreSame, BothOutside, Fails, Found, GoesOutside, IsQuiet, MayStandFor, OnlyAdds, StoresNothing, may_exchange, outcome_of}
 pub use Rattle.treecode_laws.specs.internal.Places.{IsHere, IsStatic, KeepWords, KeepsWord, location_of_place, places_of_content, places_of_contents}
 pub use Rattle.treecode_laws.specs.internal.Trees.{index_is_quiet, index_stores_nothing, is_quiet, part_is_quiet, part_stores_nothing, stores_nothing}

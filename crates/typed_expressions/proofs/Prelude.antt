@@ -6,7 +6,7 @@ pub use Rattle.trees.specs.{Trees.{ArgumentTrees, AssignmentNode, BinaryNode, Co
 pub use Rattle.typed_trees.specs.{Sizes.{capped, scalars_of_element, scalars_of_elements}, TypedTrees.{Constants, MoreArguments as More, NoSubscript, ObjectType, ScalarObject, StructureObject, TypedArguments, TypedObject}, Views.{arguments_view, expression_view, type_view}, declared.expression.TypedExpression.{TypedExpression as Typed, TypedExpression}, declared.members.FoundMember.{FoundMember}, declared.parts.InitialValue.{InitialValue, TheVariants.{ByteValue, LocationValue, WordValue}}, declared.parts.Measure.{Measure}, declared.parts.ShiftFunction.{ShiftFunction}, declared.parts.UnaryFunction.{UnaryFunction}}
 pub use Rattle.typing.proofs.Loops.{answers_fault, fails_more, made_ended, made_fails, made_goes_on, state_ended, state_fails, state_goes_on, then_then}
 pub use Rattle.typing.specs.{Constants.{bytes_of_constant, bytes_of_constants, number_of_characters}, Filling.{ANumber, AsListed, Filled, FromObject, OtherModulesToo, RestrictedValue, and_before, elements_for, enough_elements, enough_elements as elements_enough, filled_with, place_of_origin}, Nodes.{Destination, arguments_as}, References.{Known, number_of_arguments}, declared.fault.Cause.TheVariants.{ArgumentCount, ImpliedWithoutValues, NotByte, NotMeasurable, PortNotConstant, StringNotNumber}, declared.fault.Fault.{Fault}, internal.Checks.{Checked, found, refuse, require, ◌>>=◌}, internal.ConstantChecks.{with_offsets as sum_with_offsets}, internal.Expressions.{arguments, expression, given_reference}, internal.FillingChecks.{contents, contents_as_listed, fill, fill_characters, fill_characters as fill_from, fill_scalar, fill_string, fill_value, restricted_value}, internal.Functions.{function_of, measured_member, measurement, shift_of}, internal.ReferenceChecks.{destination_of, port_of, subscript_of}, internal.Results.{FailsBy, fault_in, in_front as put_in_front}, internal.StatementChecks.{destinations}}
-pub use Rattle.typed_expressions.specs.Views.{constants_view, contents_view, destination_view, known_view}
+pub use Rattle.typed_expressions.specs.internal.Views.{constants_view, contents_view, destination_view, known_view}
 pub use Rattle.typed_expressions.specs.declared.known.Known.{Known as CodeKnown}
 pub use Rattle.typed_expressions.specs.internal.Fillings.{elements_listed, filled_view, onto, run_of_member, runs_from, runs_of, scalars_of_run, values_filled}
 unfoldable pub use Rattle.typed_expressions.specs.internal.Fillings.{left_of}

@@ -8,7 +8,7 @@ ghost use Rattle.typing.specs.internal.Functions.{built_in_value, call_arguments
 ghost use Rattle.typing.specs.Nodes.{arguments_as as converted};
 ghost use Rattle.typed_expressions.specs.internal.Given.{as_given, given};
 ghost use Rattle.typing.specs.internal.Results.{Answers, Gives};
-ghost use Rattle.typed_expressions.specs.Views.{constants_view, known_view};
+ghost use Rattle.typed_expressions.specs.internal.Views.{constants_view, known_view};
 
 use crate::checks::{refuse, require};
 use crate::expression_nodes;

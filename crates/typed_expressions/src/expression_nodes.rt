@@ -7,7 +7,7 @@ ghost use Rattle.typing.specs.Nodes.{as_type as converted_to, binary_node, shift
 ghost use Rattle.typing.specs.internal.Expressions.{unary_node};
 ghost use Rattle.typed_trees.specs.Views.{Makes, expression_view, reference_view, target_view, arguments_view};
 ghost use Rattle.typing.specs.Constants.{type_of_number as number_type};
-ghost use Rattle.typed_expressions.specs.Views.{destination_view};
+ghost use Rattle.typed_expressions.specs.internal.Views.{destination_view};
 ghost use Rattle.typing.specs.internal.Results.{Answers};
 
 use crate::known::Destination;

@@ -10,7 +10,7 @@ ghost use Rattle.typing.specs.internal.Functions.{value_of};
 ghost use Rattle.typing.specs.internal.StatementChecks.{destinations};
 ghost use Rattle.typed_expressions.specs.internal.Given.{GivesScalar, extent_view, given, part_view};
 ghost use Rattle.typing.specs.internal.Results.{Answers, Gives};
-ghost use Rattle.typed_expressions.specs.Views.{constants_view, destination_view, known_view};
+ghost use Rattle.typed_expressions.specs.internal.Views.{constants_view, destination_view, known_view};
 
 use crate::checks::{refuse, require};
 use crate::constants::{bytes_of_constants, number_of_constant};

@@ -10,7 +10,7 @@ ghost use Rattle.typing.specs.Filling.{AsListed, enough_elements as elements_eno
 ghost use Rattle.typing.specs.internal.FillingChecks.{at_address, contents, fill_characters as characters_filled, fill_scalar as scalar_filled, fill_string as string_filled, fill_value as value_filled, restricted_value, static_bound, static_object, with_address as home_address};
 ghost use Rattle.typed_expressions.specs.internal.Fillings.{elements_listed, filled_view, left_of, onto, reach_view, value_view, values_filled};
 ghost use Rattle.typing.specs.internal.Results.{Answers, Leaves};
-ghost use Rattle.typed_expressions.specs.Views.{contents_view, extents_view, known_view};
+ghost use Rattle.typed_expressions.specs.internal.Views.{contents_view, extents_view, known_view};
 
 use crate::checks::refuse;
 use crate::constants::{number_of_characters, number_of_constant, place_of_constant, with_offsets};

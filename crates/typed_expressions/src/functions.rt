@@ -6,7 +6,7 @@ ghost use Rattle.typed_trees.specs.Views.{arguments_view, expression_view, objec
 ghost use Rattle.typing.specs.internal.Functions.{function_of, measure_node as node_of_measure, measure_of, measured_member, measured_object, measurement, shift_of};
 ghost use Rattle.typed_expressions.specs.internal.Given.{is_plain, measured_view, plain_tree, selector_tree};
 ghost use Rattle.typing.specs.internal.Results.{Answers};
-ghost use Rattle.typed_expressions.specs.Views.{known_view};
+ghost use Rattle.typed_expressions.specs.internal.Views.{known_view};
 
 use crate::checks::refuse;
 use crate::expression_nodes;

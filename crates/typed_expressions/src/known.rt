@@ -4,7 +4,7 @@ ghost use Rattle.std.specs.Prelude.{◌≡◌, Some};
 ghost use Rattle.typed_trees.specs.Views.{object_view, procedure_view};
 ghost use Rattle.typing.specs.internal.ReferenceChecks.{bound, object_of, procedure_of};
 ghost use Rattle.typing.specs.internal.Results.{Answers};
-ghost use Rattle.typed_expressions.specs.Views.{known_view};
+ghost use Rattle.typed_expressions.specs.internal.Views.{known_view};
 
 use crate::checks::refuse;
 use failure::Failure;

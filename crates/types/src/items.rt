@@ -16,7 +16,7 @@ ghost use Rattle.typing.specs.Items as items;
 ghost use Rattle.typing.specs.internal.ItemChecks as checks;
 ghost use Rattle.types.specs.internal.DeclareItems.{base_named, base_numbered, bytes_with, fitting_item, item_placed, listed_extents, object_listed, placed_item, structure_of, with_last_object, with_names};
 ghost use Rattle.typing.specs.internal.Results.{Answers, Leaves};
-ghost use Rattle.typed_expressions.specs.Views.{constants_view, contents_view, extents_view, known_view};
+ghost use Rattle.typed_expressions.specs.internal.Views.{constants_view, contents_view, extents_view, known_view};
 ghost use Rattle.types.specs.internal.Views.{block_view, owner_view, progress_view, typed_item_view};
 
 use crate::blocks::{Block, Owner};

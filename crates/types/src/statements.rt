@@ -15,7 +15,7 @@ ghost use Rattle.typing.specs.Statements.{assigned};
 ghost use Rattle.typing.specs.internal.StatementChecks.{assignment, call, call_bound, counter_bound, destinations, goto, goto_bound, iteration, moved, return_from, return_with, step, value};
 ghost use Rattle.typing.specs.internal.Results.{Answers, Gives};
 ghost use Rattle.types.specs.internal.Walking.{call_statement, counter_type, counter_view, given_in, targets_for};
-ghost use Rattle.typed_expressions.specs.Views.{constants_view, destination_view, known_view};
+ghost use Rattle.typed_expressions.specs.internal.Views.{constants_view, destination_view, known_view};
 ghost use Rattle.types.specs.internal.Views.{owner_view, progress_view};
 
 use crate::blocks::Owner;

@@ -8,7 +8,7 @@ use Rattle.isa8080.specs.State.{State}
 use Rattle.isa8080.specs.Step.{initial_state, state_after}
 use Rattle.asm8080.specs.Assembled.{layout_at}
 use Rattle.asm8080.specs.Items.{Stands}
-use Rattle.asm8080.specs.Example.{counting, counting_code}
+use Rattle.asm8080.specs.internal.Example.{counting, counting_code}
 
 -- code at 0, and a stack that ends before 32
 abbrev pub addresses : Target → ℕ

@@ -9,7 +9,7 @@ use Rattle.call_graphs.specs.declared.search.Progress.TheVariants.{Going, Finish
 use Rattle.call_graphs.specs.declared.search.Search.{Search}
 use Rattle.call_graphs.specs.internal.Path.{is_ended}
 use Rattle.call_graphs.specs.Chains.{Body, callees_of, charge_in}
-use Rattle.call_graphs.specs.Views.{body_view}
+use Rattle.call_graphs.specs.internal.Views.{body_view}
 
 -- what is known of a body; one that is not there calls nothing
 abbrev pub mark_of : List Mark → (body : ℕ) → Mark

@@ -7,7 +7,7 @@ use Rattle.call_graphs.specs.declared.search.Mark.TheVariants.{New, Open, Done}
 use Rattle.call_graphs.specs.declared.search.Progress.{Progress}
 use Rattle.call_graphs.specs.declared.search.Progress.TheVariants.{Going, Finished, Cyclic}
 use Rattle.call_graphs.specs.Chains.{Body, HasCycle, callees_of}
-use Rattle.call_graphs.specs.Needs.{HasGreatest, HasNeed}
+use Rattle.call_graphs.specs.internal.Needs.{HasGreatest, HasNeed}
 use Rattle.call_graphs.specs.internal.Search.{Searched, mark_of}
 
 -- a body is on a path

@@ -149,7 +149,7 @@ pub held_byte_is :
     (a h l : ℕ) (zero_flag : Bool) (memory : List ℕ)
     → location_at activation distance location < MEMORY_SIZE
     → holds_byte facts location ≡ true
-    → Rattle.code_meaning.specs.Holding.AllHold activation distance facts a h l zero_flag memory
+    → Rattle.code_meaning.specs.internal.Holding.AllHold activation distance facts a h l zero_flag memory
     → IsByteAt activation memory (location_at activation distance location) a
     ⊎ (IsByteAt activation memory (location_at activation distance location) l
     ⊎ IsByteAt activation memory (location_at activation distance location) h)

@@ -6,9 +6,9 @@ use Rattle.runtime8080.specs.declared.routine.Routine.TheVariants as names
 use Rattle.treecode.specs.declared.module.TreeModule.{TreeModule}
 use Rattle.treecode.specs.declared.procedure.ProcedureKind.{ProcedureKind}
 use Rattle.treecode.specs.declared.procedure.TreeProcedure.{TreeProcedure}
-use Rattle.steps8080.specs.Externals.{Extends}
-use Rattle.steps8080.specs.Step.{label_after}
-use Rattle.steps8080.specs.Writer.{Written, WritesRoutine, is_marked}
+use Rattle.steps8080.specs.internal.Externals.{Extends}
+use Rattle.steps8080.specs.internal.Step.{label_after}
+use Rattle.steps8080.specs.internal.Writer.{Written, WritesRoutine, is_marked}
 use Rattle.exprgen8080.specs.internal.Emission.{first_label, module_label_of_routine, module_routine_label}
 use Rattle.statements8080.specs.declared.body.Body.{Body}
 use Rattle.codegen8080.specs.declared.generator.Generator.{Generator}

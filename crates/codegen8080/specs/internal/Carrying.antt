@@ -2,7 +2,7 @@
 use Rattle.std.specs.Prelude.{◌≡◌, ℕ, Bool, List, ◌∷◌, ◌++◌, Option}
 use Rattle.asm8080.specs.declared.item.Item.{Item}
 use Rattle.steps8080.specs.declared.facts.Facts.{Facts}
-use Rattle.steps8080.specs.Writer.{Writes}
+use Rattle.steps8080.specs.internal.Writer.{Writes}
 use Rattle.exprgen8080.specs.internal.Emitted.{HasAll, NotesCalled}
 use Rattle.statements8080.specs.declared.body.Body.{Body}
 use Rattle.statements8080.specs.declared.plan.Planned.{Planned}

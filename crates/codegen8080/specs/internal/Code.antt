@@ -11,9 +11,9 @@ use Rattle.treecode.specs.declared.module.TreeModule.{TreeModule}
 use Rattle.treecode.specs.declared.statement.Statement.{Statement}
 use Rattle.treecode.specs.declared.statement.StatementNumber.{StatementNumber}
 use Rattle.steps8080.specs.declared.facts.Facts.{Facts}
-use Rattle.steps8080.specs.Facts.{no_facts}
-use Rattle.steps8080.specs.Step.{label_after}
-use Rattle.steps8080.specs.Writer.{stack_end_item}
+use Rattle.steps8080.specs.internal.Facts.{no_facts}
+use Rattle.steps8080.specs.internal.Step.{label_after}
+use Rattle.steps8080.specs.internal.Writer.{stack_end_item}
 use Rattle.exprgen8080.specs.internal.Code.{Code, IsFoundDeep, code_of_part, code_of_steps}
 use Rattle.exprgen8080.specs.internal.Emission.{knowing}
 use Rattle.statements8080.specs.declared.body.Body.{Body}

@@ -5,7 +5,7 @@ use Rattle.treecode.specs.declared.lists.Range.{Range}
 use Rattle.treecode.specs.declared.module.TreeModule.{TreeModule}
 use Rattle.treecode.specs.declared.statement.StatementNumber.{StatementNumber}
 use Rattle.steps8080.specs.declared.facts.Facts.{Facts}
-use Rattle.steps8080.specs.Writer.{Writes}
+use Rattle.steps8080.specs.internal.Writer.{Writes}
 use Rattle.exprgen8080.specs.declared.emission.Emission.{Emission}
 use Rattle.exprgen8080.specs.internal.Emitted.{EmitsSteps, HasAll, NotesCalled}
 use Rattle.statements8080.specs.declared.body.Body.{Body}

@@ -17,11 +17,11 @@ use Rattle.steps8080.specs.declared.step.LabelNumber.{LabelNumber}
 use Rattle.steps8080.specs.declared.step.Step.{Step}
 use Rattle.steps8080.specs.declared.step.Step.TheVariants as steps
 use Rattle.steps8080.specs.declared.step.Task.TheVariants as tasks
-use Rattle.steps8080.specs.Facts.{is_at, no_facts, same_location}
-use Rattle.steps8080.specs.Instructions.{copy, load}
-use Rattle.steps8080.specs.Step.{part}
+use Rattle.steps8080.specs.internal.Facts.{is_at, no_facts, same_location}
+use Rattle.steps8080.specs.internal.Instructions.{copy, load}
+use Rattle.steps8080.specs.internal.Step.{part}
 use Rattle.steps8080.specs.declared.sites.site.Site.{Site}
-use Rattle.steps8080.specs.Queries.{location_of}
+use Rattle.steps8080.specs.internal.Queries.{location_of}
 use Rattle.exprgen8080.specs.internal.Emission.{AreWritten, knowing}
 use Rattle.statements8080.specs.declared.body.Body.{Body}
 use Rattle.statements8080.specs.declared.plan.Planned.{Planned}

@@ -4,7 +4,7 @@ use Rattle.asm8080.specs.declared.item.Item.{Item}
 use Rattle.treecode.specs.declared.lists.Range.{Range}
 use Rattle.treecode.specs.declared.statement.StatementNumber.{StatementNumber}
 use Rattle.steps8080.specs.declared.facts.Facts.{Facts}
-use Rattle.steps8080.specs.Step.{label_after}
+use Rattle.steps8080.specs.internal.Step.{label_after}
 use Rattle.exprgen8080.specs.internal.Emission.{knowing}
 use Rattle.exprgen8080.specs.internal.Labelled.{AreLabelled}
 use Rattle.statements8080.specs.declared.body.Body.{Body}

@@ -9,8 +9,8 @@ use Rattle.treecode.specs.declared.module.PublicName.{PublicName}
 use Rattle.treecode.specs.declared.module.PublicPlace.{PublicPlace}
 use Rattle.treecode.specs.declared.module.PublicPlace.TheVariants.{Object, Procedure}
 use Rattle.treecode.specs.declared.module.TreeModule.{TreeModule}
-use Rattle.steps8080.specs.Externals.{entry}
-use Rattle.steps8080.specs.Writer.{place_of_known}
+use Rattle.steps8080.specs.internal.Externals.{entry}
+use Rattle.steps8080.specs.internal.Writer.{place_of_known}
 use Rattle.codegen8080.specs.internal.Modules.{IsAtPlace, has_main, used_names}
 use Rattle.codegen8080.specs.internal.Names.{Linkage}
 use Rattle.codegen8080.specs.Targets.{with_targets}

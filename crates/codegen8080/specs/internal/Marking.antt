@@ -4,7 +4,7 @@ use Rattle.std.specs.Prelude.{◌≡◌, ℕ, nat_lt, if◌then◌else◌, List,
 use Rattle.asm8080.specs.Assembled.{Assembled, Assembles}
 use Rattle.runtime8080.specs.declared.routine.Routine.{Routine}
 use Rattle.treecode.specs.declared.module.TreeModule.{TreeModule}
-use Rattle.steps8080.specs.Writer.{Written, place_of_label}
+use Rattle.steps8080.specs.internal.Writer.{Written, place_of_label}
 use Rattle.exprgen8080.specs.internal.Emission.{module_label_of_routine}
 use Rattle.codegen8080.specs.declared.marking.CodePart.TheVariants as parts
 use Rattle.codegen8080.specs.declared.marking.Mark.{Mark}

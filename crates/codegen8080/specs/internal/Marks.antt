@@ -5,8 +5,8 @@ use Rattle.asm8080.specs.Items.{size_of_items}
 use Rattle.asm8080.specs.declared.item.Item.{Item}
 use Rattle.runtime8080.specs.declared.routine.Routine.{Routine}
 use Rattle.treecode.specs.declared.module.TreeModule.{TreeModule}
-use Rattle.steps8080.specs.Externals.{entry}
-use Rattle.steps8080.specs.Writer.{place_of_known}
+use Rattle.steps8080.specs.internal.Externals.{entry}
+use Rattle.steps8080.specs.internal.Writer.{place_of_known}
 use Rattle.exprgen8080.specs.internal.Emission.{module_routine_label}
 use Rattle.codegen8080.specs.declared.marking.CodePart.{CodePart}
 use Rattle.codegen8080.specs.declared.marking.Mark.{Mark}

@@ -16,7 +16,7 @@ use Rattle.asm8080.specs.Assembled.{Assembled, Assembles, places_of}
 use Rattle.asm8080.specs.Items.{IsAssembly, size_of_items}
 use Rattle.runtime8080.specs.declared.routine.Routine.{Routine}
 use Rattle.runtime8080.specs.declared.routine.Routine.TheVariants as routines
-use Rattle.runtime8080.specs.Routines.{IsRoutine, size_of_routine}
+use Rattle.runtime8080.specs.internal.Routines.{IsRoutine, size_of_routine}
 use Rattle.treecode.specs.declared.module.Content.{Content}
 use Rattle.treecode.specs.declared.module.Content.TheVariants as contents
 use Rattle.treecode.specs.declared.module.ExternalName.{ExternalName}
@@ -30,11 +30,11 @@ use Rattle.treecode.specs.declared.procedure.ProcedureKind.{ProcedureKind}
 use Rattle.treecode.specs.declared.procedure.ProcedureKind.TheVariants as kinds
 use Rattle.treecode.specs.declared.procedure.TreeProcedure.{TreeProcedure}
 use Rattle.frames.specs.declared.frame_plan.FramePlan.{FramePlan}
-use Rattle.frames.specs.Frames.{HasFrame, HasNothing, IsPlanOf, LiesApart}
-use Rattle.steps8080.specs.Externals.{Extends, entry}
-use Rattle.steps8080.specs.Facts.{no_facts}
-use Rattle.steps8080.specs.Step.{label_after, label_of}
-use Rattle.steps8080.specs.Writer.{Written, address_items, numbered, place_of_label, stack_end_item, use_name}
+use Rattle.frames.specs.internal.Frames.{HasFrame, HasNothing, IsPlanOf, LiesApart}
+use Rattle.steps8080.specs.internal.Externals.{Extends, entry}
+use Rattle.steps8080.specs.internal.Facts.{no_facts}
+use Rattle.steps8080.specs.internal.Step.{label_after, label_of}
+use Rattle.steps8080.specs.internal.Writer.{Written, address_items, numbered, place_of_label, stack_end_item, use_name}
 use Rattle.exprgen8080.specs.internal.Emission.{call_routine, first_label, has_routine, module_label_of_routine}
 use Rattle.statements8080.specs.declared.body.Body.{Body}
 use Rattle.codegen8080.specs.declared.meeting.Here.{Here}

@@ -20,12 +20,12 @@ use Rattle.treecode.specs.declared.procedure.ProcedureKind.{ProcedureKind}
 use Rattle.treecode.specs.declared.procedure.ProcedureKind.TheVariants.{Reentrant}
 use Rattle.steps8080.specs.declared.facts.Facts.{Facts}
 use Rattle.steps8080.specs.declared.step.LabelNumber.{LabelNumber}
-use Rattle.steps8080.specs.Facts.{no_facts}
-use Rattle.steps8080.specs.Instructions.{clear_a}
-use Rattle.steps8080.specs.Step.{label_of}
+use Rattle.steps8080.specs.internal.Facts.{no_facts}
+use Rattle.steps8080.specs.internal.Instructions.{clear_a}
+use Rattle.steps8080.specs.internal.Step.{label_of}
 use Rattle.statements8080.specs.declared.body.Body.{Body}
 use Rattle.statements8080.specs.declared.plan.Planned.{Planned}
-use Rattle.statements8080.specs.Plans.{all, holds, jump, mark, plain, word}
+use Rattle.statements8080.specs.internal.Plans.{all, holds, jump, mark, plain, word}
 use Rattle.codegen8080.specs.declared.procedures.TheConstants.{POPPED_BYTES, PUSHED_WORDS}
 
 -- drops `words` words from the stack; BC is overwritten

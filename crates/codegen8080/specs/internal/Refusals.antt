@@ -3,8 +3,8 @@ use Rattle.std.specs.Prelude.{◌≡◌, ◌≤◌, ◌+◌, ℕ, Some}
 use Rattle.object_modules.specs.declared.segment.TheConstants.{SEGMENT_LIMIT}
 use Rattle.asm8080.specs.Items.{size_of_items}
 use Rattle.treecode.specs.declared.module.TreeModule.{TreeModule}
-use Rattle.steps8080.specs.Externals.{Extends}
-use Rattle.steps8080.specs.Writer.{Written, numbered}
+use Rattle.steps8080.specs.internal.Externals.{Extends}
+use Rattle.steps8080.specs.internal.Writer.{Written, numbered}
 use Rattle.codegen8080.specs.declared.fault.Fault.{Fault}
 use Rattle.codegen8080.specs.declared.fault.Fault.TheVariants.{TooLong}
 use Rattle.codegen8080.specs.internal.Modules.{IsCodeWritten, contents_items}

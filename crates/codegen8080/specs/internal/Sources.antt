@@ -3,7 +3,7 @@ use Rattle.layout.specs.Storage.{Storage}
 use Rattle.typed_trees.specs.Jumps.{JumpsAreSound}
 use Rattle.typed_trees.specs.TypedTrees.{TypedModule}
 use Rattle.treecode.specs.declared.module.TreeModule.{TreeModule}
-use Rattle.treecode.specs.Lowered.{IsLowered}
+use Rattle.treecode.specs.internal.Lowered.{IsLowered}
 
 -- Tree code of a module with sound jumps: each label of the source stands once.
 pub record IsOfModule (tree : TreeModule) : Type 0 where

@@ -7,8 +7,8 @@ use Rattle.treecode.specs.declared.lists.Range.{Range}
 use Rattle.treecode.specs.declared.module.TreeModule.{TreeModule}
 use Rattle.treecode.specs.declared.procedure.TreeProcedure.{TreeProcedure}
 use Rattle.treecode.specs.declared.statement.Statement.{Statement}
-use Rattle.treecode.specs.Lowered.{AreStatements, IsStatementForm}
-use Rattle.treecode.specs.Nodes.{Nodes, nodes_of}
+use Rattle.treecode.specs.internal.Lowered.{AreStatements, IsStatementForm}
+use Rattle.treecode.specs.internal.Nodes.{Nodes, nodes_of}
 use Rattle.statements8080.specs.declared.plan.Planned.{Planned}
 use Rattle.statements8080.specs.declared.plan.Planned.TheVariants as planned
 

@@ -15,12 +15,12 @@ use Rattle.statements8080.specs.declared.body.Body.{Body}
 use Rattle.statements8080.specs.declared.plan.Planned.{Planned}
 use Rattle.statements8080.specs.declared.plan.Planned.TheVariants.{List as ListOf, Reaches}
 use Rattle.statements8080.specs.internal.Assignments.{assignment_steps}
-use Rattle.statements8080.specs.Bodies.{body_label}
+use Rattle.statements8080.specs.internal.Bodies.{body_label}
 use Rattle.statements8080.specs.internal.Branches.{if_labels, if_steps, while_labels, while_steps}
 use Rattle.statements8080.specs.internal.Cases.{case_labels, case_steps}
 use Rattle.statements8080.specs.internal.Iterations.{iteration_labels, iteration_steps}
 use Rattle.statements8080.specs.internal.Moves.{move_steps}
-use Rattle.statements8080.specs.Plans.{jump, mark, part, plain}
+use Rattle.statements8080.specs.internal.Plans.{jump, mark, part, plain}
 use Rattle.codegen8080.specs.internal.Procedures.{return_steps}
 
 -- halts the machine

@@ -2,7 +2,7 @@
 use Rattle.std.specs.Prelude.{◌≡◌, ℕ, ◌+◌, ◌<◌, List, [], ◌∷◌, ◌++◌, length, reverse, take, drop, Option, None}
 use Rattle.std.specs.Option.{option_to_list}
 use Rattle.declared.specs.declared.frames.OpenFrame.{OpenFrame}
-use Rattle.declared.specs.Frames.{sizes_in}
+use Rattle.declared.specs.internal.Frames.{sizes_in}
 use Rattle.declared.specs.internal.Cuts.{cut, total}
 
 -- how many bytes each object has in a frame

@@ -1,7 +1,7 @@
 -- The slots of objects in frames.
 use Rattle.std.specs.Prelude.{◌≡◌, ℕ, ◌<◌, List, length, map, take, slice_index, slice_index_or, Some}
 use Rattle.declared.specs.declared.slots.ObjectSlot.{ObjectSlot}
-use Rattle.declared.specs.Frames.{FrameObject, sizes_in}
+use Rattle.declared.specs.internal.Frames.{FrameObject, sizes_in}
 use Rattle.declared.specs.internal.Cuts.{total}
 
 abbrev pub slot_view : ObjectSlot → FrameObject

@@ -1,7 +1,7 @@
 -- Stores of a value in A or HL.
 use Rattle.exprgen8080.proofs.Prelude.{◌&&◌, ◌∷◌, ◌++◌, [], A, Address, Bool, Byte, D, First, Frame, Goal, Hl, Inx, L, Location, M, MovToMemory, Mvi, Near, None, Option, ScalarType, Second, Sent, Site, Some, Static, StoreA, StoreHl, Stored, Target, TreeModule, address_beside_a_steps, address_beside_de_steps, byte_is_here_steps, copy, extension_steps, false, goal_of, goal_steps, not, store_a_at_steps, store_a_steps, store_extended_steps, store_hl_at_steps, store_low_byte_at_steps, store_low_byte_steps, store_near_steps, store_steps, store_word_steps, true, value_back_steps, word_is_here_steps, word_near, ℕ}
 use Rattle.steps8080.specs.declared.step.Step.TheVariants as steps
-use Rattle.steps8080.specs.Step.{plain}
+use Rattle.steps8080.specs.internal.Step.{plain}
 use Rattle.exprgen8080.proofs.Ranks.{Joining.{Falls, IsPlaced, after_plain, by_test, falls, joined}}
 
 near_fall :

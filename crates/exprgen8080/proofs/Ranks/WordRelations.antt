@@ -3,10 +3,10 @@ use Rattle.exprgen8080.proofs.Prelude.{◌≡◌, ◌/◌, ◌%◌, ◌==◌, �
 use Rattle.trees.specs.declared.declaration.ScalarType.TheVariants as scalars
 use Rattle.trees.specs.declared.expression.BinaryOperator.TheVariants as operators
 use Rattle.treecode.specs.declared.expression.ExpressionForm.TheVariants as forms
-use Rattle.steps8080.specs.Queries as queries
+use Rattle.steps8080.specs.internal.Queries as queries
 use Rattle.steps8080.specs.declared.step.Step.TheVariants as steps
 use Rattle.steps8080.specs.declared.step.Task.TheVariants as tasks
-use Rattle.steps8080.specs.Step.{part}
+use Rattle.steps8080.specs.internal.Step.{part}
 use Rattle.operands8080.specs.internal.WordRelations.{difference_steps, high_byte_steps, with_pair_steps}
 use Rattle.exprgen8080.proofs.Ranks.{Joining.{Falls, IsPlaced, IsUnder, after_part, after_plain, by_finding, by_test, falls, joined, of_found, repeated, weak}, Trees.{HasParts, has_parts}, Found.{high_is_in_memory}, Pairs.{pair_fall}, ByteRelations.{byte_number_fall, byte_relation_fall, number_in_a_fall}}
 

@@ -4,8 +4,8 @@ use Rattle.trees.specs.declared.expression.BinaryOperator.TheVariants as operato
 use Rattle.exprgen8080.specs.declared.word_operators.Simple.TheVariants as simple
 use Rattle.exprgen8080.specs.internal.WordShifts.{shifted_left_steps, zero_steps}
 use Rattle.steps8080.specs.declared.step.Step.TheVariants as steps
-use Rattle.steps8080.specs.Step.{plain}
-use Rattle.steps8080.specs.Instructions.{set}
+use Rattle.steps8080.specs.internal.Step.{plain}
+use Rattle.steps8080.specs.internal.Instructions.{set}
 use Rattle.exprgen8080.proofs.Ranks.{Joining.{Falls, IsUnder, after_part, after_plain, by_finding, by_test, falls, joined, of_found, repeated}, Chains.{product_fall}, Addresses.{addition_fall}, Pairs.{pair_fall}, Bytes.{byte_operation_fall, byte_shifted_right_fall, computed_product_fall, division_fall, high_byte_fall, right_shift_fall, with_number_fall}}
 
 zero_fall :

@@ -14,11 +14,11 @@ use Rattle.treecode.specs.declared.reference.Reference.{Reference}
 use Rattle.steps8080.specs.declared.step.Step.{Step}
 use Rattle.steps8080.specs.declared.step.Step.TheVariants.{CallRoutine, Plain}
 use Rattle.steps8080.specs.declared.step.Task.TheVariants as tasks
-use Rattle.steps8080.specs.Instructions.{clear_a, copy, low, with_memory, with_register}
-use Rattle.steps8080.specs.Step.{part}
+use Rattle.steps8080.specs.internal.Instructions.{clear_a, copy, low, with_memory, with_register}
+use Rattle.steps8080.specs.internal.Step.{part}
 use Rattle.steps8080.specs.declared.sites.site.Site.{Site}
-use Rattle.steps8080.specs.Queries.{is_free, may_exchange, number as number_of}
-use Rattle.steps8080.specs.Widths.{is_byte_in_register, low_number, operand_in_memory, power}
+use Rattle.steps8080.specs.internal.Queries.{is_free, may_exchange, number as number_of}
+use Rattle.steps8080.specs.internal.Widths.{is_byte_in_register, low_number, operand_in_memory, power}
 use Rattle.operands8080.specs.internal.Pairs.{pair_steps}
 use Rattle.operands8080.specs.internal.Products.{byte_product_steps}
 use Rattle.operands8080.specs.internal.Relations.{relation_value_steps}

@@ -15,12 +15,12 @@ use Rattle.treecode.specs.declared.reference.Reference.{Reference}
 use Rattle.steps8080.specs.declared.step.Step.{Step}
 use Rattle.steps8080.specs.declared.step.Step.TheVariants.{CallRoutine, Plain}
 use Rattle.steps8080.specs.declared.step.Task.TheVariants as tasks
-use Rattle.steps8080.specs.Instructions.{clear_a, copy, load, with_register}
-use Rattle.steps8080.specs.Step.{part, plain, repeat_steps}
+use Rattle.steps8080.specs.internal.Instructions.{clear_a, copy, load, with_register}
+use Rattle.steps8080.specs.internal.Step.{part, plain, repeat_steps}
 use Rattle.steps8080.specs.declared.sites.site.Site.{Site}
-use Rattle.steps8080.specs.Site.{scalar}
-use Rattle.steps8080.specs.Queries.{is_free, known, may_exchange, number as number_of}
-use Rattle.steps8080.specs.Widths.{fits_byte, operand_in_memory}
+use Rattle.steps8080.specs.internal.Site.{scalar}
+use Rattle.steps8080.specs.internal.Queries.{is_free, known, may_exchange, number as number_of}
+use Rattle.steps8080.specs.internal.Widths.{fits_byte, operand_in_memory}
 use Rattle.exprgen8080.specs.declared.byte_shifts.Shifted.{Shifted}
 use Rattle.exprgen8080.specs.internal.Halves.{high_byte_steps, low_of_word_steps}
 

@@ -17,15 +17,15 @@ use Rattle.treecode.specs.declared.expression.ExpressionNumber.{ExpressionNumber
 use Rattle.treecode.specs.declared.lists.Range.{Range}
 use Rattle.treecode.specs.declared.place.Place.{Place}
 use Rattle.treecode.specs.declared.reference.Target.{Target}
-use Rattle.treecode.specs.Queries.{place_number, source}
+use Rattle.treecode.specs.internal.Queries.{place_number, source}
 use Rattle.steps8080.specs.declared.step.Step.{Step}
 use Rattle.steps8080.specs.declared.step.Step.TheVariants.{Plain, Word}
 use Rattle.steps8080.specs.declared.step.Task.TheVariants as tasks
-use Rattle.steps8080.specs.Instructions.{copy, low}
-use Rattle.steps8080.specs.Step.{part}
+use Rattle.steps8080.specs.internal.Instructions.{copy, low}
+use Rattle.steps8080.specs.internal.Step.{part}
 use Rattle.steps8080.specs.declared.sites.site.Site.{Site}
-use Rattle.steps8080.specs.Site.{expression, scalar}
-use Rattle.steps8080.specs.Queries.{known, memory}
+use Rattle.steps8080.specs.internal.Site.{expression, scalar}
+use Rattle.steps8080.specs.internal.Queries.{known, memory}
 use Rattle.operands8080.specs.internal.Loads.{byte_in_memory_steps}
 use Rattle.exprgen8080.specs.internal.Halves.{byte_number_steps, high_byte_steps}
 use Rattle.exprgen8080.specs.internal.ByteOperators.{byte_binary_steps}

@@ -7,14 +7,14 @@ use Rattle.trees.specs.declared.declaration.ScalarType.{ScalarType}
 use Rattle.trees.specs.declared.declaration.ScalarType.TheVariants.{Byte, Address}
 use Rattle.treecode.specs.declared.expression.ExpressionNumber.{ExpressionNumber}
 use Rattle.treecode.specs.declared.lists.Range.{Range}
-use Rattle.treecode.specs.Queries.{argument}
+use Rattle.treecode.specs.internal.Queries.{argument}
 use Rattle.steps8080.specs.declared.step.Step.{Step}
 use Rattle.steps8080.specs.declared.step.Step.TheVariants.{CallProcedure, Plain}
 use Rattle.steps8080.specs.declared.step.Task.{Task}
 use Rattle.steps8080.specs.declared.step.Task.TheVariants as tasks
-use Rattle.steps8080.specs.Step.{part}
+use Rattle.steps8080.specs.internal.Step.{part}
 use Rattle.steps8080.specs.declared.sites.site.Site.{Site}
-use Rattle.steps8080.specs.Site.{scalar}
+use Rattle.steps8080.specs.internal.Site.{scalar}
 
 -- the task of putting a value into A or HL, by its type
 unfoldable pub value_task : ScalarType → ExpressionNumber → Task

@@ -6,7 +6,7 @@ use Rattle.steps8080.specs.declared.facts.Facts.{Facts}
 use Rattle.steps8080.specs.declared.step.Part.{Part}
 use Rattle.steps8080.specs.declared.step.Step.{Step}
 use Rattle.steps8080.specs.declared.step.Step.TheVariants as steps
-use Rattle.steps8080.specs.Step.{label_after}
+use Rattle.steps8080.specs.internal.Step.{label_after}
 use Rattle.steps8080.specs.declared.sites.site.Site.{Site}
 use Rattle.exprgen8080.specs.declared.emission.Emission.{Emission}
 use Rattle.exprgen8080.specs.internal.Emission.{knowing}

@@ -9,9 +9,9 @@ use Rattle.treecode.specs.declared.reference.Subscript.{Subscript}
 use Rattle.steps8080.specs.declared.step.Step.{Step}
 use Rattle.steps8080.specs.declared.step.Step.TheVariants.{Plain}
 use Rattle.steps8080.specs.declared.step.Task.TheVariants as tasks
-use Rattle.steps8080.specs.Step.{part}
+use Rattle.steps8080.specs.internal.Step.{part}
 use Rattle.steps8080.specs.declared.sites.site.Site.{Site}
-use Rattle.steps8080.specs.Site.{expression}
+use Rattle.steps8080.specs.internal.Site.{expression}
 use Rattle.exprgen8080.specs.internal.Bytes.{embedded_steps}
 use Rattle.exprgen8080.specs.internal.Calls.{call_steps}
 

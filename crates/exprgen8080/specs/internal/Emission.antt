@@ -22,9 +22,9 @@ use Rattle.steps8080.specs.declared.step.LabelNumber.{LabelNumber}
 use Rattle.steps8080.specs.declared.step.Part.{Part}
 use Rattle.steps8080.specs.declared.step.Step.{Step}
 use Rattle.steps8080.specs.declared.step.Step.TheVariants as steps
-use Rattle.steps8080.specs.Facts.{after, after_form, after_word, no_facts, with_facts, without_memory}
-use Rattle.steps8080.specs.Step.{label_after, label_of}
-use Rattle.steps8080.specs.Writer.{external_call_item, jump_item, word_item}
+use Rattle.steps8080.specs.internal.Facts.{after, after_form, after_word, no_facts, with_facts, without_memory}
+use Rattle.steps8080.specs.internal.Step.{label_after, label_of}
+use Rattle.steps8080.specs.internal.Writer.{external_call_item, jump_item, word_item}
 use Rattle.steps8080.specs.declared.sites.site.Site.{Site}
 use Rattle.exprgen8080.specs.internal.Forms.{task_steps}
 

@@ -9,8 +9,8 @@ use Rattle.steps8080.specs.declared.facts.Facts.{Facts}
 use Rattle.steps8080.specs.declared.step.Part.{Part}
 use Rattle.steps8080.specs.declared.step.Step.{Step}
 use Rattle.steps8080.specs.declared.step.Step.TheVariants as steps
-use Rattle.steps8080.specs.Facts.{after, after_form, after_word, no_facts, with_facts, without_memory}
-use Rattle.steps8080.specs.Writer.{Writes, jump_item, word_item}
+use Rattle.steps8080.specs.internal.Facts.{after, after_form, after_word, no_facts, with_facts, without_memory}
+use Rattle.steps8080.specs.internal.Writer.{Writes, jump_item, word_item}
 use Rattle.steps8080.specs.declared.sites.site.Site.{Site}
 use Rattle.exprgen8080.specs.declared.emission.Emission.{Emission}
 use Rattle.exprgen8080.specs.internal.Emission.{AreWritten, IsWritten, after_test, call_routine, first_label, has_routine, module_call_items, module_label_of_routine, test_items}

@@ -5,11 +5,11 @@ use Rattle.treecode.specs.declared.expression.ExpressionNumber.{ExpressionNumber
 use Rattle.steps8080.specs.declared.step.Step.{Step}
 use Rattle.steps8080.specs.declared.step.Step.TheVariants.{Plain}
 use Rattle.steps8080.specs.declared.step.Task.TheVariants as tasks
-use Rattle.steps8080.specs.Instructions.{clear_a, copy, high, set}
-use Rattle.steps8080.specs.Step.{part}
+use Rattle.steps8080.specs.internal.Instructions.{clear_a, copy, high, set}
+use Rattle.steps8080.specs.internal.Step.{part}
 use Rattle.steps8080.specs.declared.sites.site.Site.{Site}
-use Rattle.steps8080.specs.Queries.{number as number_of}
-use Rattle.steps8080.specs.Widths.{fits_byte, high_byte_in_memory}
+use Rattle.steps8080.specs.internal.Queries.{number as number_of}
+use Rattle.steps8080.specs.internal.Widths.{fits_byte, high_byte_in_memory}
 use Rattle.operands8080.specs.internal.Loads.{byte_in_memory_steps}
 
 -- puts a number into A

@@ -4,7 +4,7 @@ use Rattle.asm8080.specs.declared.item.Item.{Item}
 use Rattle.steps8080.specs.declared.facts.Facts.{Facts}
 use Rattle.steps8080.specs.declared.step.Part.{Part}
 use Rattle.steps8080.specs.declared.step.Step.{Step}
-use Rattle.steps8080.specs.Step.{label_after}
+use Rattle.steps8080.specs.internal.Step.{label_after}
 use Rattle.steps8080.specs.declared.sites.site.Site.{Site}
 use Rattle.exprgen8080.specs.internal.Emission.{AreWritten, IsWritten, NoneWritten, PlainWritten, WordWritten, JumpWritten, MarkWritten, RoutineWritten, CallWritten, TestWritten, HoldsWritten, ChangeWritten, PartWritten, Planned, knowing}
 use Rattle.exprgen8080.specs.internal.Forms.{task_labels}

@@ -4,7 +4,7 @@ use Rattle.runtime8080.specs.declared.routine.Routine.TheVariants as routines
 use Rattle.steps8080.specs.declared.step.Step.{Step}
 use Rattle.steps8080.specs.declared.step.Step.TheVariants.{CallRoutine}
 use Rattle.steps8080.specs.declared.sites.site.Site.{Site}
-use Rattle.steps8080.specs.Widths.{fits_byte}
+use Rattle.steps8080.specs.internal.Widths.{fits_byte}
 use Rattle.operands8080.specs.declared.pairs.PairOrder.{PairOrder}
 use Rattle.operands8080.specs.declared.pairs.PairOrder.TheVariants.{LeftInHl, RightInHl}
 use Rattle.operands8080.specs.internal.Pairs.{pair_in_order_steps, pair_steps}

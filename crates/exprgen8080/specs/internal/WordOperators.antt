@@ -12,15 +12,15 @@ use Rattle.trees.specs.declared.expression.BinaryOperator.TheVariants as operato
 use Rattle.treecode.specs.declared.expression.ExpressionNumber.{ExpressionNumber}
 use Rattle.treecode.specs.declared.place.Place.{Place}
 use Rattle.treecode.specs.declared.place.Place.TheVariants.{Number}
-use Rattle.treecode.specs.Homes.{place_after}
+use Rattle.treecode.specs.internal.Homes.{place_after}
 use Rattle.steps8080.specs.declared.step.Step.{Step}
 use Rattle.steps8080.specs.declared.step.Step.TheVariants.{Plain, Word}
 use Rattle.steps8080.specs.declared.step.Task.TheVariants as tasks
-use Rattle.steps8080.specs.Instructions.{clear_a, copy, high, low, set, with_register}
-use Rattle.steps8080.specs.Step.{extension_steps, part, plain}
+use Rattle.steps8080.specs.internal.Instructions.{clear_a, copy, high, low, set, with_register}
+use Rattle.steps8080.specs.internal.Step.{extension_steps, part, plain}
 use Rattle.steps8080.specs.declared.sites.site.Site.{Site}
-use Rattle.steps8080.specs.Queries.{is_free, known, may_exchange, number as number_of}
-use Rattle.steps8080.specs.Widths.{direct_word, fits_byte, is_word_in_hl, power}
+use Rattle.steps8080.specs.internal.Queries.{is_free, known, may_exchange, number as number_of}
+use Rattle.steps8080.specs.internal.Widths.{direct_word, fits_byte, is_word_in_hl, power}
 use Rattle.operands8080.specs.declared.pairs.PairOrder.{PairOrder}
 use Rattle.operands8080.specs.declared.pairs.PairOrder.TheVariants.{LeftInHl, RightInHl}
 use Rattle.operands8080.specs.internal.Addresses.{addition_steps}

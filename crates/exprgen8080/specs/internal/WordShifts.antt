@@ -15,11 +15,11 @@ use Rattle.treecode.specs.declared.place.Place.TheVariants.{Number}
 use Rattle.steps8080.specs.declared.step.Step.{Step}
 use Rattle.steps8080.specs.declared.step.Step.TheVariants.{CallRoutine, Plain, Word}
 use Rattle.steps8080.specs.declared.step.Task.TheVariants as tasks
-use Rattle.steps8080.specs.Instructions.{copy, set, with_register}
-use Rattle.steps8080.specs.Step.{extension_steps, part, plain, repeat_steps}
+use Rattle.steps8080.specs.internal.Instructions.{copy, set, with_register}
+use Rattle.steps8080.specs.internal.Step.{extension_steps, part, plain, repeat_steps}
 use Rattle.steps8080.specs.declared.sites.site.Site.{Site}
-use Rattle.steps8080.specs.Queries.{is_free, number as number_of}
-use Rattle.steps8080.specs.Widths.{fits_byte}
+use Rattle.steps8080.specs.internal.Queries.{is_free, number as number_of}
+use Rattle.steps8080.specs.internal.Widths.{fits_byte}
 use Rattle.exprgen8080.specs.declared.byte_shifts.Shifted.{Shifted}
 use Rattle.exprgen8080.specs.internal.Halves.{high_byte_steps}
 use Rattle.exprgen8080.specs.internal.ByteShifts.{byte_shifted_right_steps, right_shift_steps}

@@ -15,11 +15,11 @@ use Rattle.treecode.specs.declared.expression.ExpressionNumber.{ExpressionNumber
 use Rattle.treecode.specs.declared.place.Location.TheVariants.{Static}
 use Rattle.steps8080.specs.declared.step.Step.{Step}
 use Rattle.steps8080.specs.declared.step.Task.TheVariants as tasks
-use Rattle.steps8080.specs.Instructions.{clear_a, copy, set, with_register}
-use Rattle.steps8080.specs.Step.{extension_steps, part, plain}
+use Rattle.steps8080.specs.internal.Instructions.{clear_a, copy, set, with_register}
+use Rattle.steps8080.specs.internal.Step.{extension_steps, part, plain}
 use Rattle.steps8080.specs.declared.sites.site.Site.{Site}
-use Rattle.steps8080.specs.Site.{expression}
-use Rattle.steps8080.specs.Queries.{known, memory}
+use Rattle.steps8080.specs.internal.Site.{expression}
+use Rattle.steps8080.specs.internal.Queries.{known, memory}
 use Rattle.operands8080.specs.internal.Addresses.{location_address_steps}
 use Rattle.operands8080.specs.internal.Loads.{extended_byte_in_memory_steps, word_in_memory_steps}
 use Rattle.exprgen8080.specs.internal.Bytes.{embedded_steps}

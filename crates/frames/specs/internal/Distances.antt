@@ -3,7 +3,7 @@ use Rattle.std.specs.Prelude.{◌≡◌, ℕ, zero, suc, ◌+◌, ◌-◌, ◌*�
 use Rattle.treecode.specs.declared.procedure.FrameVariable.{FrameVariable}
 use Rattle.treecode.specs.declared.procedure.TreeProcedure.{TreeProcedure}
 use Rattle.frames.specs.declared.frame_plan.FramePlan.{FramePlan}
-use Rattle.frames.specs.Frames.{variable_bytes}
+use Rattle.frames.specs.internal.Frames.{variable_bytes}
 
 -- a sum saturated at 16 bits
 abbrev pub capped : ℕ → ℕ

@@ -1,7 +1,7 @@
 -- Worked frames, computed by hand, each beside the heading and the declarations that it is of.
 use Rattle.std.specs.Prelude.{◌≡◌, ℕ, List, [], ◌∷◌, None, Some, refl}
 use Rattle.treecode.specs.declared.procedure.FrameVariable.{FrameVariable}
-use Rattle.frames.specs.Frames.{distance_in, return_distance, variable_bytes}
+use Rattle.frames.specs.internal.Frames.{distance_in, return_distance, variable_bytes}
 
 abbrev variable : (size : ℕ) → FrameVariable
 variable size = record { size = size; parameter = None }

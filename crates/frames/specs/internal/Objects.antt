@@ -7,11 +7,11 @@ use Rattle.typed_trees.specs.Charge.{charge_of}
 use Rattle.typed_trees.specs.Sizes.{size_of_object}
 use Rattle.typed_trees.specs.TypedTrees.{InFrame, TypedObject, TypedProcedure, TypedModule}
 use Rattle.treecode.specs.declared.procedure.TreeProcedure.{TreeProcedure}
-use Rattle.treecode.specs.Homes.{frame_number}
+use Rattle.treecode.specs.internal.Homes.{frame_number}
 use Rattle.frames.specs.declared.frame_plan.FramePlan.{FramePlan}
-use Rattle.frames.specs.Charges.{charge_in, IsChargedAs}
-use Rattle.frames.specs.Frames.{distance_of, return_of, HasFrame, IsPlanOf}
-use Rattle.frames.specs.Calls.{call_bytes}
+use Rattle.frames.specs.internal.Charges.{charge_in, IsChargedAs}
+use Rattle.frames.specs.internal.Frames.{distance_of, return_of, HasFrame, IsPlanOf}
+use Rattle.frames.specs.internal.Calls.{call_bytes}
 
 -- an object in the frame of a procedure has a byte of this number
 abbrev pub HasByte : TypedModule → (procedure object offset : ℕ) → Type 0

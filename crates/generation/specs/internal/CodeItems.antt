@@ -10,8 +10,8 @@ use Rattle.treecode.specs.declared.module.TreeModule.{TreeModule}
 use Rattle.treecode.specs.declared.procedure.ProcedureKind.{ProcedureKind}
 use Rattle.treecode.specs.declared.procedure.ProcedureKind.TheVariants as kinds
 use Rattle.treecode.specs.declared.procedure.TreeProcedure.{TreeProcedure}
-use Rattle.frames.specs.Calls.{call_bytes}
-use Rattle.steps8080.specs.Writer.{Written}
+use Rattle.frames.specs.internal.Calls.{call_bytes}
+use Rattle.steps8080.specs.internal.Writer.{Written}
 use Rattle.codegen8080.specs.internal.Modules.{AreCodeOf, IsCodeOf, IsCodeOfMain, IsCodeWritten, IsSegmentOf, has_main}
 use Rattle.measure_laws.specs.internal.Heights.{PushesAtMost}
 

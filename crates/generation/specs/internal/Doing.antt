@@ -1,6 +1,6 @@
 -- What code that is added for one expression or location does on the machine.
 use Rattle.std.specs.Prelude.{◌≡◌, ℕ}
-use Rattle.code_meaning.specs.Activations.{IsThere}
+use Rattle.code_meaning.specs.internal.Activations.{IsThere}
 use Rattle.steps8080.specs.declared.step.Part.{Part}
 use Rattle.steps8080.specs.declared.sites.site.Site.{Site}
 use Rattle.exprgen8080.specs.declared.emission.Emission.{Emission}

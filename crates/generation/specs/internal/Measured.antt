@@ -8,12 +8,12 @@ use Rattle.typed_trees.specs.Weight.{code_bound}
 use Rattle.layout.specs.Storage.{Storage, data_bytes, storage_with}
 use Rattle.asm8080.specs.Items.{size_of_items}
 use Rattle.treecode.specs.declared.module.TreeModule.{TreeModule}
-use Rattle.treecode.specs.Lowered.{IsLowered}
-use Rattle.steps8080.specs.Writer.{Written}
+use Rattle.treecode.specs.internal.Lowered.{IsLowered}
+use Rattle.steps8080.specs.internal.Writer.{Written}
 use Rattle.codegen8080.specs.declared.fault.Fault.{Fault}
 use Rattle.codegen8080.specs.internal.Modules.{IsCodeWritten}
 use Rattle.codegen8080.specs.internal.Refusals.{MayRefuse}
-use Rattle.measure_laws.specs.Sound.{IsSound}
+use Rattle.measure_laws.specs.internal.Sound.{IsSound}
 use Rattle.generation.specs.Bounded.{PassesBound}
 
 -- Tree code that was lowered from a module which is typed as `check` promises, and whose data segment has no

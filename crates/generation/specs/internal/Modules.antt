@@ -7,9 +7,9 @@ use Rattle.typed_trees.specs.Weight.{code_bound}
 use Rattle.layout.specs.Storage.{Storage, storage_of}
 use Rattle.layout.specs.Sound.{IsSoundlyTyped}
 use Rattle.treecode.specs.declared.module.TreeModule.{TreeModule}
-use Rattle.treecode.specs.Lowered.{IsLowered}
+use Rattle.treecode.specs.internal.Lowered.{IsLowered}
 use Rattle.codegen8080.specs.declared.fault.Fault.{Fault}
-use Rattle.measure_laws.specs.Bounds.{bound_of_tree}
+use Rattle.measure_laws.specs.internal.Bounds.{bound_of_tree}
 use Rattle.generation.specs.internal.CodeItems.{BodiesPushWithinCharges, HasItems}
 use Rattle.generation.specs.internal.Measured.{IsNotMade}
 

@@ -9,11 +9,11 @@ use Rattle.layout.specs.Sound.{IsSoundlyTyped}
 use Rattle.layout.specs.Storage.{Storage, storage_of}
 use Rattle.treecode.specs.declared.module.TreeModule.{TreeModule}
 use Rattle.treecode.specs.declared.procedure.TreeProcedure.{TreeProcedure}
-use Rattle.frames.specs.Charges.{IsChargedAs}
+use Rattle.frames.specs.internal.Charges.{IsChargedAs}
 use Rattle.codegen8080.specs.internal.Modules.{IsGenerated}
 use Rattle.codegen8080.specs.internal.Names.{IsLinkable}
 use Rattle.program_laws.specs.OneModule.{DoesWhereItLies}
-use Rattle.measure_laws.specs.Bounds.{bound_of_tree}
+use Rattle.measure_laws.specs.internal.Bounds.{bound_of_tree}
 
 -- Tree code of a module is charged as the module, procedure by procedure. Its code bound, which is counted on its nodes,
 -- is that of the module. And its outcomes and events are those of the module, as code shows them: each object module that

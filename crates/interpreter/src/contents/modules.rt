@@ -3,7 +3,7 @@
 ghost use Rattle.std.specs.Prelude.{◌≡◌};
 ghost use Rattle.layout.specs.StartingMemory.{starting_memory};
 ghost use Rattle.placing.specs.Views.{module_placement_view};
-ghost use Rattle.resolving.specs.Views.{program_view, site_view};
+ghost use Rattle.resolving.specs.internal.Views.{program_view, site_view};
 ghost use Rattle.interpreter.specs.internal.Contents.{contents_at, with_all};
 
 use crate::contents::objects::{put_lists, put_objects};

@@ -4,7 +4,7 @@ ghost use Rattle.std.specs.Prelude.{◌≡◌, map, vec_items, zip};
 ghost use Rattle.typed_trees.specs.Views.{object_view};
 ghost use Rattle.layout.specs.StartingMemory.{contents_of_list, contents_of_object};
 ghost use Rattle.meaning.specs.Access.{address_of};
-ghost use Rattle.resolving.specs.Views.{site_view};
+ghost use Rattle.resolving.specs.internal.Views.{site_view};
 ghost use Rattle.interpreter.specs.internal.Contents.{with_all, with_contents};
 
 use crate::contents::bytes::put_bytes;

@@ -4,7 +4,7 @@ ghost use Rattle.std.specs.Prelude.{◌≡◌, flat_map, length};
 ghost use Rattle.mem80.specs.Memory.{IsMemory};
 ghost use Rattle.layout.specs.StartingMemory.{bytes_of_value, written};
 ghost use Rattle.meaning.specs.Access.{address_of};
-ghost use Rattle.resolving.specs.Views.{site_view};
+ghost use Rattle.resolving.specs.internal.Views.{site_view};
 ghost use Rattle.interpreter.specs.internal.Contents.{IsAfter};
 
 use crate::contents::bytes::{put_byte, put_word};

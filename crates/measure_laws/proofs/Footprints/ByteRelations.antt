@@ -2,7 +2,7 @@
 use Rattle.measure_laws.proofs.Prelude.{◌%◌, Psw, Push, Bool, IfSome, None, Option, Some, [], arith, false, if◌then◌else◌, is_some, nat_lt, not, refl, true, ℕ, ◌&&◌, ◌*◌, ◌+◌, ◌-◌, ◌==◌, ◌∷◌, ◌≤◌, AccumulateImmediate, Dcr, Inr, Of, Compare, Subtract, A, ExpressionNumber, Reference, Comparison, NumberQuestion, Below, Is, Never, Question, Equal, LeftBelow, RightBelow, is_free, is_byte_in_register, operand_in_memory, better_form, byte_is_steps, byte_relation_steps, comparing, exchanged, form_of_equality, form_or_push, in_order, is_zero_steps, known_answer, left_back_steps, may_begin_with, memory_form, number_in_a_steps, pushed_steps, register_form, Purpose, Branch, Value, Setting, Form, WithE, WithMemory, Sides, is_better_exchanged, without_push, beside, indices}
 use Rattle.steps8080.specs.declared.step.Step.TheVariants as steps
 use Rattle.steps8080.specs.declared.step.Task.TheVariants as tasks
-use Rattle.steps8080.specs.Step.{part}
+use Rattle.steps8080.specs.internal.Step.{part}
 use Rattle.operands8080.specs.declared.byte_relations.Form.TheVariants.{Pushed}
 use Rattle.operands8080.specs.internal.ByteRelations.{byte_number_steps, form_of, with_e_steps, with_memory_steps}
 use Rattle.measure_laws.specs.internal.Footprints.{Footprint, Ground, IsBelow}

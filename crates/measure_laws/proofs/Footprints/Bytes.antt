@@ -4,8 +4,8 @@ use Rattle.trees.specs.declared.declaration.ScalarType.TheVariants as scalars
 use Rattle.trees.specs.declared.expression.BinaryOperator.TheVariants as operators
 use Rattle.steps8080.specs.declared.step.Step.TheVariants as steps
 use Rattle.steps8080.specs.declared.step.Task.TheVariants as tasks
-use Rattle.steps8080.specs.Step.{part}
-use Rattle.steps8080.specs.Widths.{is_byte}
+use Rattle.steps8080.specs.internal.Step.{part}
+use Rattle.steps8080.specs.internal.Widths.{is_byte}
 use Rattle.measure_laws.specs.internal.Footprints.{Footprint, Ground, HasTwo, IsBelow, IsOperand}
 use Rattle.measure_laws.proofs.{Footprints.Addresses.{byte_in_memory_footprint}, Footprints.Chains.{byte_product_footprint}, Footprints.Found.{IsInMemory, high_is_in_memory, of_found, operand_is_in_memory}, Footprints.Joining.{after_part, after_plain, by_asking, by_finding, by_test, counted, joined, lowered, repeated, restored, two_free, operand_from_below, within}, Footprints.Pairs.{pair_footprint, pair_in_order_footprint}, Footprints.Relations.{relation_value_footprint}, Footprints.Weights.{type_is}}
 

@@ -6,7 +6,7 @@ use Rattle.treecode.specs.declared.expression.ExpressionForm.TheVariants as form
 use Rattle.asm8080.specs.declared.item.WordForm.TheVariants as word_forms
 use Rattle.isa8080.specs.declared.instr.Condition.TheVariants as conditions
 use Rattle.steps8080.specs.declared.step.Step.TheVariants as steps
-use Rattle.steps8080.specs.Queries as queries
+use Rattle.steps8080.specs.internal.Queries as queries
 use Rattle.operands8080.specs.declared.branches.Branch.{Branch}
 use Rattle.operands8080.specs.declared.relations.Outcome.TheVariants as outcomes
 use Rattle.measure_laws.specs.internal.Footprints.{Footprint, Ground, HasParts, HasTwo, IsBelow, IsOperand}

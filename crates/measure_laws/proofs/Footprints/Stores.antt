@@ -1,7 +1,7 @@
 -- Stores of a value in A or HL.
 use Rattle.measure_laws.proofs.Prelude.{Bool, None, Option, Some, [], arith, false, not, refl, true, ℕ, ◌&&◌, ◌*◌, ◌++◌, ◌+◌, ◌-◌, ◌∷◌, ◌≤◌, ScalarType, Address, Byte, height_of_target, TypedTarget, Inx, MovToMemory, Mvi, M, Hl, A, D, L, StoreA, StoreHl, IsStored, IsTarget, nodes_of, Location, Frame, Static, Reference, Target, Sent, Stored, copy, extension_steps, address_beside_a_steps, address_beside_de_steps, byte_is_here_steps, goal_of, goal_steps, store_a_at_steps, store_a_steps, store_extended_steps, store_hl_at_steps, store_low_byte_at_steps, store_low_byte_steps, store_near_steps, store_steps, store_word_steps, value_back_steps, word_is_here_steps, word_near, Goal, Near, First, Second, weight_in_target, beside_at, AimHolds, indices}
 use Rattle.steps8080.specs.declared.step.Step.TheVariants as steps
-use Rattle.steps8080.specs.Step.{plain}
+use Rattle.steps8080.specs.internal.Step.{plain}
 use Rattle.measure_laws.specs.internal.Footprints.{Footprint, Ground, IsAimed, IsPlaced}
 use Rattle.measure_laws.proofs.{Footprints.Joining.{after_plain, by_test, counted, joined, within}}
 

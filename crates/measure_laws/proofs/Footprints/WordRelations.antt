@@ -3,10 +3,10 @@ use Rattle.measure_laws.proofs.Prelude.{Bool, IfSome, None, Option, Some, [], ar
 use Rattle.trees.specs.declared.declaration.ScalarType.TheVariants as scalars
 use Rattle.trees.specs.declared.expression.BinaryOperator.TheVariants as operators
 use Rattle.treecode.specs.declared.expression.ExpressionForm.TheVariants as forms
-use Rattle.steps8080.specs.Queries as queries
+use Rattle.steps8080.specs.internal.Queries as queries
 use Rattle.steps8080.specs.declared.step.Step.TheVariants as steps
 use Rattle.steps8080.specs.declared.step.Task.TheVariants as tasks
-use Rattle.steps8080.specs.Step.{part}
+use Rattle.steps8080.specs.internal.Step.{part}
 use Rattle.operands8080.specs.internal.WordRelations.{difference_steps, high_byte_steps, with_pair_steps}
 use Rattle.measure_laws.specs.internal.Footprints.{Footprint, Ground, HasParts, IsBelow}
 use Rattle.measure_laws.proofs.{Footprints.ByteRelations.{byte_number_footprint, byte_relation_footprint, number_in_a_footprint}, Footprints.Found.{IsInMemory, high_is_in_memory, of_found}, Footprints.Joining.{after_part, after_plain, by_asking, by_finding, by_test, counted, joined, repeated, operand_from_below, within}, Footprints.Pairs.{pair_footprint}, Footprints.Trees.{has_parts}}

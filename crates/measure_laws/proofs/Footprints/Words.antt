@@ -4,7 +4,7 @@ use Rattle.trees.specs.declared.expression.BinaryOperator.TheVariants as operato
 use Rattle.exprgen8080.specs.declared.word_operators.Simple.TheVariants as simple
 use Rattle.exprgen8080.specs.internal.WordShifts.{shifted_left_steps, zero_steps}
 use Rattle.steps8080.specs.declared.step.Step.TheVariants as steps
-use Rattle.steps8080.specs.Step.{plain}
+use Rattle.steps8080.specs.internal.Step.{plain}
 use Rattle.measure_laws.specs.internal.Footprints.{Footprint, Ground, IsBelow}
 use Rattle.measure_laws.proofs.{Footprints.Addresses.{addition_footprint}, Footprints.Bytes.{byte_operation_footprint, byte_shifted_right_footprint, computed_product_footprint, division_footprint, high_byte_footprint, right_shift_footprint, with_number_footprint}, Footprints.Chains.{product_footprint}, Footprints.Found.{of_found}, Footprints.Joining.{after_part, after_plain, by_asking, by_finding, by_test, counted, joined, lowered, repeated, restored, two_free, operand_from_below, within}, Footprints.Pairs.{pair_footprint}}
 

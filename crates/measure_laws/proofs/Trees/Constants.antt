@@ -3,7 +3,7 @@
 use Rattle.measure_laws.proofs.Prelude.{◌≡◌, ℕ, suc, ◌+◌, ◌-◌, ◌≤◌, ◌==◌, Bool, true, false, ◌&&◌, min, if◌then◌else◌, nat_le, nat_lt, List, [], ◌∷◌, ◌++◌, length, map, slice_get, Option, Some, None, refl, sym, subst, ◌∙◌, arith, filter_map, sum_by, AllByRecursion, cons_option, enumerate_from, option_map_or, eqb-true, recursion_from_All, sum_by-append, sum_by-cons, same_Some, ConstantItem, ConstantObject, ConstantList, InitialValue, ByteValue, WordValue, LocationValue, size_of_object, IsStorable, bytes_filled, constant_number, numbered_constant, object_in, size_of_value, TypedHome, InData, InConstants, Placed, BasedOn, Elsewhere, Nowhere, InFrame, TypedObject, TypedModule, constant_bytes, size_of_constant, Storage, bytes_in_constants, Content, Word, Gap, Home, constant_object, constants_from, constants_of, content_of, bytes_of_value, with_constant, with_gap, with_gap_if_any, with_object, constant_small, size_of_content, size_of_contents, same_sizes}
 use Rattle.layout.proofs.Segments.{of_all}
 use Rattle.treecode.specs.declared.module.Content.TheVariants.{Byte}
-use Rattle.treecode_laws.specs.Laid.{IsStored}
+use Rattle.treecode_laws.specs.internal.Laid.{IsStored}
 
 -- a gap after contents
 joined_size :

@@ -3,7 +3,7 @@ use Rattle.measure_laws.proofs.Prelude.{◌≡◌, ℕ, zero, suc, ◌+◌, ◌�
 use Rattle.typed_trees.specs.Weight as typed
 use Rattle.treecode.specs.declared.statement.Statement.{Statement}
 use Rattle.measure_laws.proofs.Footprints.Weights.{arguments_weigh, target_weighs, weighs_at}
-use Rattle.measure_laws.specs.Bounds.{weight_of_arguments, weight_of_expression, weight_of_iteration, weight_of_statement, weight_of_target}
+use Rattle.measure_laws.specs.internal.Bounds.{weight_of_arguments, weight_of_expression, weight_of_iteration, weight_of_statement, weight_of_target}
 
 -- the weight of the entries of a range of a table is that of the first one plus that of the others
 entries_weigh :

@@ -10,9 +10,9 @@ use Rattle.treecode.specs.declared.lists.Range.{Range}
 use Rattle.treecode.specs.declared.module.TreeModule.{TreeModule}
 use Rattle.treecode.specs.declared.procedure.TreeProcedure.{TreeProcedure}
 use Rattle.treecode.specs.declared.statement.StatementNumber.{StatementNumber}
-use Rattle.treecode.specs.Lowered.{AreArguments, IsExpression, IsList, IsReference, IsStatement, IsTarget}
-use Rattle.treecode.specs.Nodes.{nodes_of}
-use Rattle.frames.specs.Calls.{call_bytes}
+use Rattle.treecode.specs.internal.Lowered.{AreArguments, IsExpression, IsList, IsReference, IsStatement, IsTarget}
+use Rattle.treecode.specs.internal.Nodes.{nodes_of}
+use Rattle.frames.specs.internal.Calls.{call_bytes}
 use Rattle.steps8080.specs.declared.step.Task.{Task}
 use Rattle.steps8080.specs.declared.step.Task.TheVariants as tasks
 use Rattle.statements8080.specs.declared.body.Body.{Body}

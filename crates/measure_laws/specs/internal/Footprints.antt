@@ -20,15 +20,15 @@ use Rattle.treecode.specs.declared.lists.Range.{Range}
 use Rattle.treecode.specs.declared.module.TreeModule.{TreeModule}
 use Rattle.treecode.specs.declared.reference.Reference.{Reference}
 use Rattle.treecode.specs.declared.reference.Target.{Target}
-use Rattle.treecode.specs.Lowered.{AreArguments, IsExpression, IsReference, IsTarget}
-use Rattle.treecode.specs.Nodes.{nodes_of}
-use Rattle.treecode.specs.Traits.{traits_at}
+use Rattle.treecode.specs.internal.Lowered.{AreArguments, IsExpression, IsReference, IsTarget}
+use Rattle.treecode.specs.internal.Nodes.{nodes_of}
+use Rattle.treecode.specs.internal.Traits.{traits_at}
 use Rattle.steps8080.specs.declared.step.Step.{Step}
 use Rattle.steps8080.specs.declared.step.Step.TheVariants as steps
 use Rattle.steps8080.specs.declared.step.Task.{Task}
 use Rattle.steps8080.specs.declared.step.Task.TheVariants as tasks
 use Rattle.steps8080.specs.declared.sites.site.Site.{Site}
-use Rattle.measure_laws.specs.Weights.{weight_of_indices, weight_in_target, weight_of_given, beside_at}
+use Rattle.measure_laws.specs.internal.Weights.{weight_of_indices, weight_in_target, weight_of_given, beside_at}
 use Rattle.measure_laws.specs.internal.Heights.{taken_by}
 use Rattle.measure_laws.specs.internal.Sizes.{BYTES_OF_ADDRESS, BYTES_OF_CALL}
 

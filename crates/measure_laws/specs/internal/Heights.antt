@@ -15,7 +15,7 @@ use Rattle.isa8080.specs.declared.instr.Condition.{Condition}
 use Rattle.runtime8080.specs.declared.routine.Routine.{Routine}
 use Rattle.treecode.specs.declared.module.TreeModule.{TreeModule}
 use Rattle.treecode.specs.declared.procedure.TreeProcedure.{TreeProcedure}
-use Rattle.steps8080.specs.Writer.{jump_item}
+use Rattle.steps8080.specs.internal.Writer.{jump_item}
 use Rattle.exprgen8080.specs.internal.Emission.{module_call_items, module_label_of_routine}
 
 -- an instruction that does not change the stack pointer, and continues with the next instruction

@@ -3,7 +3,7 @@ use Rattle.std.specs.Prelude.{List, ◌++◌}
 use Rattle.object_modules.specs.declared.segment.Fix.{Fix}
 use Rattle.object_modules.specs.Before.{leading_fixes}
 use Rattle.object_modules.specs.Walking.{parts_from}
-use Rattle.object_reading.specs.Fixes.{fixes_in}
+use Rattle.object_reading.specs.internal.Fixes.{fixes_in}
 use Rattle.object_reading.specs.declared.walks.cursor_fixes.FixCursor.{FixCursor}
 
 -- the fixes of the entries that are left, and those of the fix records that follow

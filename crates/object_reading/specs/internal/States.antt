@@ -12,17 +12,17 @@ use Rattle.object_modules.specs.Before.{is_empty, content_end}
 use Rattle.object_modules.specs.Module.{holds_bytes, may_have_publics}
 use Rattle.object_modules.specs.Parts.{Content}
 use Rattle.object_modules.specs.Reading.{segment_of, name_in_front}
-use Rattle.object_reading.specs.Entries.{content_at, content_where, is_content}
-use Rattle.object_reading.specs.Fixes.{FixHead, fix_where, fixes_in}
+use Rattle.object_reading.specs.internal.Entries.{content_at, content_where, is_content}
+use Rattle.object_reading.specs.internal.Fixes.{FixHead, fix_where, fixes_in}
 use Rattle.object_reading.specs.declared.rules.extents.Extents.{Extents}
 use Rattle.object_reading.specs.declared.judgement.header.Header.{Header}
 use Rattle.object_reading.specs.declared.rules.names.NameList.TheVariants.{Externals, Publics}
 use Rattle.object_reading.specs.declared.judgement.state.State.{State as CodeState}
-use Rattle.object_reading.specs.Headers.{nothing_said, extents_in}
-use Rattle.object_reading.specs.Marks.{Marked, unmarked, marked_after}
-use Rattle.object_reading.specs.NamesJudged.{names_in, names_taken}
-use Rattle.object_reading.specs.Order.{may_come}
-use Rattle.object_reading.specs.References.{entries_fit, target_fits}
+use Rattle.object_reading.specs.internal.Headers.{nothing_said, extents_in}
+use Rattle.object_reading.specs.internal.Marks.{Marked, unmarked, marked_after}
+use Rattle.object_reading.specs.internal.NamesJudged.{names_in, names_taken}
+use Rattle.object_reading.specs.internal.Order.{may_come}
+use Rattle.object_reading.specs.internal.References.{entries_fit, target_fits}
 
 pub record State : Type 0 where
   pub latest : Option RecordKind

@@ -5,7 +5,7 @@ ghost use Rattle.std.specs.Option.{option_map};
 ghost use Rattle.omf80.specs.declared.kind.RecordKind.TheVariants.{ExternalReferences, Relocation, IntersegmentReferences};
 ghost use Rattle.object_modules.specs.declared.segment.Segment.TheVariants.{Absolute};
 ghost use Rattle.object_modules.specs.Reading.{fix_kind_of};
-ghost use Rattle.object_reading.specs.Fixes.{fix_in_front, fix_where};
+ghost use Rattle.object_reading.specs.internal.Fixes.{fix_in_front, fix_where};
 
 use crate::entries::fronts::{segment_of, word};
 use object_modules::{Fix, FixKind, Segment, Target};

@@ -5,7 +5,7 @@ ghost use Rattle.failure.specs.Failure.{IfFault};
 ghost use Rattle.object_modules.specs.Module.{ObjectModule as ObjectValue};
 ghost use Rattle.object_modules.specs.Rules.{fault_from_record};
 ghost use Rattle.object_modules.specs.Spelling.{Spells, HasFirstFault};
-ghost use Rattle.object_reading.specs.Judging.{IsJudged};
+ghost use Rattle.object_reading.specs.internal.Judging.{IsJudged};
 
 use crate::judgement::header::Header;
 use crate::judgement::state::State;

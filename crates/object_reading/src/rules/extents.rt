@@ -4,7 +4,7 @@ ghost use Rattle.std.specs.Prelude.{◌≡◌, true};
 ghost use Rattle.object_modules.specs.Parts.{segment_number};
 ghost use Rattle.object_modules.specs.Rules.{is_served};
 ghost use Rattle.object_modules.specs.Spelling.{alignment_with};
-ghost use Rattle.object_reading.specs.Headers.{entry_at, nothing_said, extents_with, extents_in};
+ghost use Rattle.object_reading.specs.internal.Headers.{entry_at, nothing_said, extents_with, extents_in};
 
 use crate::entries::{segment_of, word};
 use object_modules::{Alignment, Fault, Segment};

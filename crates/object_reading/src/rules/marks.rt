@@ -4,11 +4,11 @@ ghost use Rattle.std.specs.Prelude.{◌≡◌, ◌≤◌, ◌&&◌, [], true, So
 ghost use Rattle.object_modules.specs.declared.segment.Segment.TheVariants.{Absolute};
 ghost use Rattle.object_modules.specs.Module.{width_of};
 ghost use Rattle.object_modules.specs.Rules.{is_within};
-ghost use Rattle.object_reading.specs.Entries.{content_at};
-ghost use Rattle.object_reading.specs.Fixes.{AreFixEntries, fixes_in};
+ghost use Rattle.object_reading.specs.internal.Entries.{content_at};
+ghost use Rattle.object_reading.specs.internal.Fixes.{AreFixEntries, fixes_in};
 ghost use Rattle.object_reading.specs.Views.{content_view};
-ghost use Rattle.object_reading.specs.Marks.{is_marked, with_marks, marks_after, no_marks};
-ghost use Rattle.object_reading.specs.Marks.{unmarked, marked_after};
+ghost use Rattle.object_reading.specs.internal.Marks.{is_marked, with_marks, marks_after, no_marks};
+ghost use Rattle.object_reading.specs.internal.Marks.{unmarked, marked_after};
 
 use crate::entries::{Content, fix_in_front};
 use object_modules::{Fix, FixKind, Segment};
@@ -24,7 +24,7 @@ pub struct MarkedContent<'a> {
 impl<'a> Model for MarkedContent<'a> {
     ghost use Rattle.std.specs.Prelude.{◌≤◌, length};
     ghost use Rattle.object_reading.specs.Views.{content_view};
-    ghost use Rattle.object_reading.specs.Marks.{Marked};
+    ghost use Rattle.object_reading.specs.internal.Marks.{Marked};
 
     ghost Value = { Marked };
 

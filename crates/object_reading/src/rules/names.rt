@@ -6,7 +6,7 @@ ghost use Rattle.std.specs.Option.{option_map};
 ghost use Rattle.failure.specs.Failure.{IfFault};
 ghost use Rattle.symbols.specs.Names.{is_name, is_name_character};
 ghost use Rattle.object_modules.specs.Module.{is_among};
-ghost use Rattle.object_reading.specs.NamesJudged.{entry_name, names_in, names_taken};
+ghost use Rattle.object_reading.specs.internal.NamesJudged.{entry_name, names_in, names_taken};
 
 use crate::entries::{definition_in_front, listed_name_in_front};
 use failure::Failure;

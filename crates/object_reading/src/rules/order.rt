@@ -2,7 +2,7 @@
 
 ghost use Rattle.std.specs.Prelude.{◌≡◌};
 ghost use Rattle.object_modules.specs.Before.{rank_of, is_fix_record};
-ghost use Rattle.object_reading.specs.Order.{may_come};
+ghost use Rattle.object_reading.specs.internal.Order.{may_come};
 
 use omf80::RecordKind;
 

@@ -1,7 +1,7 @@
 //! Entries of fix records are judged by the names and the segments that they refer to.
 
 ghost use Rattle.std.specs.Prelude.{◌≡◌};
-ghost use Rattle.object_reading.specs.References.{is_known, entries_fit, target_fits};
+ghost use Rattle.object_reading.specs.internal.References.{is_known, entries_fit, target_fits};
 
 use crate::entries::fix_in_front;
 use object_modules::{FixKind, Segment, Target};

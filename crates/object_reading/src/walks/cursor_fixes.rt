@@ -3,8 +3,8 @@
 ghost use Rattle.std.specs.Prelude.{◌≡◌, ◌<◌, [], length, IfNone, IfSome};
 ghost use Rattle.object_modules.specs.Before.{leading_fixes};
 ghost use Rattle.object_modules.specs.Walking.{parts_from};
-ghost use Rattle.object_reading.specs.Entries.{AreParts};
-ghost use Rattle.object_reading.specs.Fixes.{AreFixEntries};
+ghost use Rattle.object_reading.specs.internal.Entries.{AreParts};
+ghost use Rattle.object_reading.specs.internal.Fixes.{AreFixEntries};
 ghost use Rattle.object_reading.specs.internal.Cursors.{fixes_left};
 
 use crate::entries::fix_entries_of;

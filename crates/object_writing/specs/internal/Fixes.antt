@@ -12,7 +12,7 @@ use Rattle.object_modules.specs.declared.segment.Target.TheVariants.{InSegment, 
 use Rattle.object_modules.specs.Parts.{Part, ContentPart, segment_number, fix_kind_number, reference_bytes}
 use Rattle.object_modules.specs.Before.{same_segment}
 use Rattle.object_modules.specs.Text.{has_kind}
-use Rattle.object_writing.specs.Groups.{Group, empty_group, records_of}
+use Rattle.object_writing.specs.internal.Groups.{Group, empty_group, records_of}
 use Rattle.object_writing.specs.declared.records.content.Referred.{Referred}
 use Rattle.object_writing.specs.declared.records.content.Referred.TheVariants.{Names, Own, Other}
 

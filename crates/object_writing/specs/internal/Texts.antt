@@ -4,7 +4,7 @@ use Rattle.object_modules.specs.declared.segment.Segment.TheVariants.{Absolute, 
 use Rattle.object_modules.specs.Module.{Public, ObjectModule}
 use Rattle.object_modules.specs.Parts.{part_bytes}
 use Rattle.object_modules.specs.Text.{external_parts, public_parts, segment_parts}
-use Rattle.object_writing.specs.Contents.{end_text}
+use Rattle.object_writing.specs.internal.Contents.{end_text}
 
 abbrev pub publics_text : List Public → List ℕ
 publics_text publics =

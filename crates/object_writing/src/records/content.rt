@@ -4,8 +4,8 @@ ghost use Rattle.std.specs.Prelude.{◌≡◌, ◌≤◌, ◌++◌, length, map,
 ghost use Rattle.std.specs.Io.KnownBytes.{Appends};
 ghost use Rattle.object_modules.specs.Parts.{part_bytes};
 ghost use Rattle.failure.specs.Writing.{AppendsBeginning};
-ghost use Rattle.object_writing.specs.Contents.{content_text};
-ghost use Rattle.object_writing.specs.Groups.{flushed_by, records_of, with_item};
+ghost use Rattle.object_writing.specs.internal.Contents.{content_text};
+ghost use Rattle.object_writing.specs.internal.Groups.{flushed_by, records_of, with_item};
 ghost use Rattle.object_writing.specs.internal.Fixes.{content_part, fix_entry, fixes_to, group_for, kind_text, lists_segment, name_entry, other_text, others_text, place_entry, fixes_text};
 
 use crate::records::body::{Body, write_body};

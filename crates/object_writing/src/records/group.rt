@@ -6,7 +6,7 @@ ghost use Rattle.omf80.specs.Records.{word_bytes};
 ghost use Rattle.object_modules.specs.Before.{is_empty};
 ghost use Rattle.object_modules.specs.Parts.{segment_number, fix_kind_number, listed_name_bytes, definition_bytes, reference_bytes};
 ghost use Rattle.failure.specs.Writing.{AppendsBeginning};
-ghost use Rattle.object_writing.specs.Groups.{empty_group, group_bytes, flushed, with_room, with_bytes, with_entry, last_record};
+ghost use Rattle.object_writing.specs.internal.Groups.{empty_group, group_bytes, flushed, with_room, with_bytes, with_entry, last_record};
 
 use crate::records::body::{Body, write_body};
 use crate::records::numbers::{number_of_kind, number_of_segment, word};
@@ -29,7 +29,7 @@ pub struct Group {
 impl Model for Group {
     ghost use Rattle.std.specs.Prelude.{◌≤◌, length, take, drop};
     ghost use Rattle.omf80.specs.declared.kind.TheConstants.{BODY_LIMIT};
-    ghost use Rattle.object_writing.specs.Groups.{Group as GroupValue};
+    ghost use Rattle.object_writing.specs.internal.Groups.{Group as GroupValue};
 
     ghost Value = { GroupValue };
 

@@ -4,7 +4,7 @@ ghost use Rattle.std.specs.Prelude.{◌≡◌, ◌+◌, ◌*◌, ◌≤◌, ◌+
 ghost use Rattle.std.specs.Io.KnownBytes.{Appends};
 ghost use Rattle.omf80.specs.Records.{bytes_of};
 ghost use Rattle.failure.specs.Writing.{AppendsBeginning};
-ghost use Rattle.object_writing.specs.Contents.{end_text, header_text, listed_bytes, module_end_text};
+ghost use Rattle.object_writing.specs.internal.Contents.{end_text, header_text, listed_bytes, module_end_text};
 
 use crate::records::body::{Body, write_body};
 use crate::records::numbers::{number_of_alignment, number_of_segment, word};

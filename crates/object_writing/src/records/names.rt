@@ -7,7 +7,7 @@ ghost use Rattle.object_modules.specs.Parts.{part_bytes};
 ghost use Rattle.object_modules.specs.Text.{external_parts, public_parts};
 ghost use Rattle.object_modules.specs.Views.{owned_public_view};
 ghost use Rattle.failure.specs.Writing.{AppendsBeginning};
-ghost use Rattle.object_writing.specs.Groups.{flushed_by, records_of, with_item};
+ghost use Rattle.object_writing.specs.internal.Groups.{flushed_by, records_of, with_item};
 ghost use Rattle.object_writing.specs.internal.Named.{name_entry, owned_entry};
 
 use crate::records::group::Group;

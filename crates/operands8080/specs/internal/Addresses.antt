@@ -11,20 +11,20 @@ use Rattle.treecode.specs.declared.place.Place.{Place}
 use Rattle.treecode.specs.declared.place.Place.TheVariants.{Number}
 use Rattle.treecode.specs.declared.reference.Reference.{Reference}
 use Rattle.treecode.specs.declared.reference.Subscript.{Subscript}
-use Rattle.treecode.specs.Homes.{location_after}
-use Rattle.treecode.specs.Queries.{place_number}
+use Rattle.treecode.specs.internal.Homes.{location_after}
+use Rattle.treecode.specs.internal.Queries.{place_number}
 use Rattle.steps8080.specs.declared.step.Step.{Step}
 use Rattle.steps8080.specs.declared.step.Step.TheVariants.{Holds, Plain, Word}
-use Rattle.steps8080.specs.Step.{plain, repeat_steps}
-use Rattle.steps8080.specs.Facts.{before, is_at, no_facts}
-use Rattle.steps8080.specs.Instructions.{copy, load}
+use Rattle.steps8080.specs.internal.Step.{plain, repeat_steps}
+use Rattle.steps8080.specs.internal.Facts.{before, is_at, no_facts}
+use Rattle.steps8080.specs.internal.Instructions.{copy, load}
 use Rattle.steps8080.specs.declared.sites.queries.Base.{Base}
 use Rattle.steps8080.specs.declared.sites.queries.Base.TheVariants as bases
 use Rattle.steps8080.specs.declared.sites.queries.Located.{Located}
 use Rattle.steps8080.specs.declared.sites.site.Site.{Site}
-use Rattle.steps8080.specs.Queries.{keeps, located}
-use Rattle.steps8080.specs.Site.{distance}
-use Rattle.steps8080.specs.Widths.{unknown}
+use Rattle.steps8080.specs.internal.Queries.{keeps, located}
+use Rattle.steps8080.specs.internal.Site.{distance}
+use Rattle.steps8080.specs.internal.Widths.{unknown}
 use Rattle.operands8080.specs.internal.Products.{product_steps}
 
 -- the number that is subtracted from 65536 to give this one

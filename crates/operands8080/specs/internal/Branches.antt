@@ -15,14 +15,14 @@ use Rattle.steps8080.specs.declared.step.LabelNumber.{LabelNumber}
 use Rattle.steps8080.specs.declared.step.Step.{Step}
 use Rattle.steps8080.specs.declared.step.Step.TheVariants.{Jump, Mark, Plain}
 use Rattle.steps8080.specs.declared.step.Task.TheVariants as tasks
-use Rattle.steps8080.specs.Step.{label_of, part}
+use Rattle.steps8080.specs.internal.Step.{label_of, part}
 use Rattle.steps8080.specs.declared.sites.questions.Comparison.{Comparison}
 use Rattle.steps8080.specs.declared.sites.questions.Relation.{Relation}
 use Rattle.steps8080.specs.declared.sites.site.Site.{Site}
-use Rattle.steps8080.specs.Site.{expression}
-use Rattle.steps8080.specs.Queries as queries
-use Rattle.steps8080.specs.Queries.{is_quiet}
-use Rattle.steps8080.specs.Questions.{agree, relation_of}
+use Rattle.steps8080.specs.internal.Site.{expression}
+use Rattle.steps8080.specs.internal.Queries as queries
+use Rattle.steps8080.specs.internal.Queries.{is_quiet}
+use Rattle.steps8080.specs.internal.Questions.{agree, relation_of}
 use Rattle.operands8080.specs.declared.answers.Purpose.TheVariants as purposes
 use Rattle.operands8080.specs.declared.answers.Setting.{Setting}
 use Rattle.operands8080.specs.declared.branches.Branch.{Branch}

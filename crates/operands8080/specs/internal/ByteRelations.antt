@@ -11,16 +11,16 @@ use Rattle.treecode.specs.declared.reference.Reference.{Reference}
 use Rattle.steps8080.specs.declared.step.Step.{Step}
 use Rattle.steps8080.specs.declared.step.Step.TheVariants.{Plain, TestA}
 use Rattle.steps8080.specs.declared.step.Task.TheVariants.{Address, Byte}
-use Rattle.steps8080.specs.Instructions.{copy, with_memory, with_register}
-use Rattle.steps8080.specs.Step.{part, plain}
+use Rattle.steps8080.specs.internal.Instructions.{copy, with_memory, with_register}
+use Rattle.steps8080.specs.internal.Step.{part, plain}
 use Rattle.steps8080.specs.declared.sites.questions.Comparison.{Comparison}
 use Rattle.steps8080.specs.declared.sites.questions.NumberQuestion.{NumberQuestion}
 use Rattle.steps8080.specs.declared.sites.questions.NumberQuestion.TheVariants.{Never, Below, Is}
 use Rattle.steps8080.specs.declared.sites.questions.Question.{Question}
 use Rattle.steps8080.specs.declared.sites.questions.Question.TheVariants.{LeftBelow, RightBelow, Equal}
 use Rattle.steps8080.specs.declared.sites.site.Site.{Site}
-use Rattle.steps8080.specs.Queries.{is_at_hl, is_free, may_exchange}
-use Rattle.steps8080.specs.Widths.{is_byte_in_register, operand_in_memory}
+use Rattle.steps8080.specs.internal.Queries.{is_at_hl, is_free, may_exchange}
+use Rattle.steps8080.specs.internal.Widths.{is_byte_in_register, operand_in_memory}
 use Rattle.operands8080.specs.declared.answers.Answer.{Answer}
 use Rattle.operands8080.specs.declared.answers.Answer.TheVariants.{Known, Carry, Zero}
 use Rattle.operands8080.specs.declared.answers.Purpose.TheVariants.{Branch, Value}

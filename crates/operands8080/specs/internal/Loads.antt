@@ -10,12 +10,12 @@ use Rattle.treecode.specs.declared.reference.Reference.{Reference}
 use Rattle.steps8080.specs.declared.step.Step.{Step}
 use Rattle.steps8080.specs.declared.step.Step.TheVariants.{Plain, Word}
 use Rattle.steps8080.specs.declared.step.Task.TheVariants.{Address}
-use Rattle.steps8080.specs.Facts.{before, byte_for_l, byte_from_hl, is_at}
-use Rattle.steps8080.specs.Instructions.{copy, load, set}
-use Rattle.steps8080.specs.Step.{part, plain}
+use Rattle.steps8080.specs.internal.Facts.{before, byte_for_l, byte_from_hl, is_at}
+use Rattle.steps8080.specs.internal.Instructions.{copy, load, set}
+use Rattle.steps8080.specs.internal.Step.{part, plain}
 use Rattle.steps8080.specs.declared.sites.site.Site.{Site}
-use Rattle.steps8080.specs.Queries.{location_of}
-use Rattle.steps8080.specs.Site.{distance}
+use Rattle.steps8080.specs.internal.Queries.{location_of}
+use Rattle.steps8080.specs.internal.Site.{distance}
 use Rattle.operands8080.specs.internal.Addresses.{note_word_steps, location_address_steps, location_word_steps, word_at_hl_steps}
 
 -- puts the word at the stack pointer into HL

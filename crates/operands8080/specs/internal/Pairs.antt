@@ -10,11 +10,11 @@ use Rattle.treecode.specs.declared.place.Place.{Place}
 use Rattle.steps8080.specs.declared.step.Step.{Step}
 use Rattle.steps8080.specs.declared.step.Step.TheVariants.{Plain, Word}
 use Rattle.steps8080.specs.declared.step.Task.TheVariants as tasks
-use Rattle.steps8080.specs.Instructions.{copy, set}
-use Rattle.steps8080.specs.Step.{part, plain}
+use Rattle.steps8080.specs.internal.Instructions.{copy, set}
+use Rattle.steps8080.specs.internal.Step.{part, plain}
 use Rattle.steps8080.specs.declared.sites.site.Site.{Site}
-use Rattle.steps8080.specs.Queries.{is_free, keeps, known, may_exchange}
-use Rattle.steps8080.specs.Widths.{fits_byte, is_word_in_hl}
+use Rattle.steps8080.specs.internal.Queries.{is_free, keeps, known, may_exchange}
+use Rattle.steps8080.specs.internal.Widths.{fits_byte, is_word_in_hl}
 use Rattle.operands8080.specs.declared.pairs.Choices.{Choices}
 use Rattle.operands8080.specs.declared.pairs.PairForm.{PairForm}
 use Rattle.operands8080.specs.declared.pairs.PairForm.TheVariants.{RightKnown, LeftKnown, RightKeeps, LeftKeeps, RightFree, LeftFree, Pushed}

@@ -11,9 +11,9 @@ use Rattle.treecode.specs.declared.place.Place.TheVariants.{Number}
 use Rattle.steps8080.specs.declared.step.Step.{Step}
 use Rattle.steps8080.specs.declared.step.Step.TheVariants.{Plain, Word}
 use Rattle.steps8080.specs.declared.step.Task.TheVariants as tasks
-use Rattle.steps8080.specs.Step.{part, plain, repeat_steps}
-use Rattle.steps8080.specs.Instructions.{clear_a, copy, set, with_register}
-use Rattle.steps8080.specs.Widths.{power_of_two}
+use Rattle.steps8080.specs.internal.Step.{part, plain, repeat_steps}
+use Rattle.steps8080.specs.internal.Instructions.{clear_a, copy, set, with_register}
+use Rattle.steps8080.specs.internal.Widths.{power_of_two}
 
 -- whether a bit of a number is 1
 unfoldable pub has_bit : (number bit : ℕ) → Bool

@@ -10,14 +10,14 @@ use Rattle.trees.specs.declared.declaration.ScalarType.TheVariants.{Byte, Addres
 use Rattle.treecode.specs.declared.expression.ExpressionNumber.{ExpressionNumber}
 use Rattle.steps8080.specs.declared.step.Step.{Step}
 use Rattle.steps8080.specs.declared.step.Step.TheVariants.{Plain}
-use Rattle.steps8080.specs.Instructions.{clear_a, set, with_register}
+use Rattle.steps8080.specs.internal.Instructions.{clear_a, set, with_register}
 use Rattle.steps8080.specs.declared.sites.questions.Comparison.{Comparison}
 use Rattle.steps8080.specs.declared.sites.questions.Inquiry.{Inquiry}
 use Rattle.steps8080.specs.declared.sites.questions.Inquiry.TheVariants.{Between, WithNumber}
 use Rattle.steps8080.specs.declared.sites.questions.NumberQuestion.{NumberQuestion}
 use Rattle.steps8080.specs.declared.sites.questions.Relation.{Relation}
 use Rattle.steps8080.specs.declared.sites.site.Site.{Site}
-use Rattle.steps8080.specs.Questions.{agree, relation_of}
+use Rattle.steps8080.specs.internal.Questions.{agree, relation_of}
 use Rattle.operands8080.specs.declared.answers.Answer.{Answer}
 use Rattle.operands8080.specs.declared.answers.Answer.TheVariants as answers
 use Rattle.operands8080.specs.declared.answers.Purpose.TheVariants.{Value}

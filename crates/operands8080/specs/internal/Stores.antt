@@ -16,12 +16,12 @@ use Rattle.treecode.specs.declared.reference.Target.TheVariants.{Sent, Stored}
 use Rattle.steps8080.specs.declared.step.Step.{Step}
 use Rattle.steps8080.specs.declared.step.Step.TheVariants.{Holds, MemoryChanged, Plain, Word}
 use Rattle.steps8080.specs.declared.step.Task.TheVariants as tasks
-use Rattle.steps8080.specs.Facts.{no_facts}
-use Rattle.steps8080.specs.Instructions.{copy}
-use Rattle.steps8080.specs.Step.{extension_steps, part, plain}
+use Rattle.steps8080.specs.internal.Facts.{no_facts}
+use Rattle.steps8080.specs.internal.Instructions.{copy}
+use Rattle.steps8080.specs.internal.Step.{extension_steps, part, plain}
 use Rattle.steps8080.specs.declared.sites.site.Site.{Site}
-use Rattle.steps8080.specs.Queries.{keeps_of_address, location_of}
-use Rattle.steps8080.specs.Site.{distance}
+use Rattle.steps8080.specs.internal.Queries.{keeps_of_address, location_of}
+use Rattle.steps8080.specs.internal.Site.{distance}
 use Rattle.operands8080.specs.declared.stores.Goal.{Goal}
 use Rattle.operands8080.specs.declared.stores.Near.{Near}
 use Rattle.operands8080.specs.declared.stores.Near.TheVariants.{First, Second}

@@ -12,13 +12,13 @@ use Rattle.treecode.specs.declared.expression.ExpressionForm.{ExpressionForm}
 use Rattle.treecode.specs.declared.expression.ExpressionForm.TheVariants.{Binary}
 use Rattle.treecode.specs.declared.expression.ExpressionNumber.{ExpressionNumber}
 use Rattle.treecode.specs.declared.place.Place.{Place}
-use Rattle.treecode.specs.Homes.{place_after}
+use Rattle.treecode.specs.internal.Homes.{place_after}
 use Rattle.steps8080.specs.declared.step.Step.{Step}
 use Rattle.steps8080.specs.declared.step.Step.TheVariants as steps
 use Rattle.steps8080.specs.declared.step.Step.TheVariants.{Plain}
 use Rattle.steps8080.specs.declared.step.Task.TheVariants.{Address, Byte, Word}
-use Rattle.steps8080.specs.Instructions.{copy, high, load, low, with_register}
-use Rattle.steps8080.specs.Step.{part, plain, repeat_steps}
+use Rattle.steps8080.specs.internal.Instructions.{copy, high, load, low, with_register}
+use Rattle.steps8080.specs.internal.Step.{part, plain, repeat_steps}
 use Rattle.steps8080.specs.declared.sites.questions.Comparison.{Comparison}
 use Rattle.steps8080.specs.declared.sites.questions.Inquiry.{Inquiry}
 use Rattle.steps8080.specs.declared.sites.questions.Inquiry.TheVariants.{Between, WithNumber}
@@ -28,10 +28,10 @@ use Rattle.steps8080.specs.declared.sites.questions.Question.{Question}
 use Rattle.steps8080.specs.declared.sites.questions.Question.TheVariants.{LeftBelow, RightBelow, Equal}
 use Rattle.steps8080.specs.declared.sites.questions.Relation.{Relation}
 use Rattle.steps8080.specs.declared.sites.site.Site.{Site}
-use Rattle.steps8080.specs.Site.{expression}
-use Rattle.steps8080.specs.Queries as queries
-use Rattle.steps8080.specs.Queries.{direct, may_exchange}
-use Rattle.steps8080.specs.Widths.{direct_word, fits_byte, high_byte_in_memory, is_word_in_hl}
+use Rattle.steps8080.specs.internal.Site.{expression}
+use Rattle.steps8080.specs.internal.Queries as queries
+use Rattle.steps8080.specs.internal.Queries.{direct, may_exchange}
+use Rattle.steps8080.specs.internal.Widths.{direct_word, fits_byte, high_byte_in_memory, is_word_in_hl}
 use Rattle.operands8080.specs.declared.pairs.PairOrder.{PairOrder}
 use Rattle.operands8080.specs.declared.pairs.PairOrder.TheVariants.{LeftInHl, RightInHl}
 use Rattle.operands8080.specs.internal.Addresses.{negated}

@@ -1,6 +1,6 @@
 -- The entry of a procedure that is not REENTRANT, from its first instruction to the begin of its body.
 use Rattle.procedure_laws.proofs.Prelude.{◌≡◌, ℕ, suc, ◌+◌, ◌-◌, ◌*◌, ◌<◌, ◌≤◌, List, [], ◌∷◌, ◌++◌, length, map, slice_get, Option, Some, None, refl, sym, ap, subst, ◌∙◌, arith, take, MEMORY_SIZE, frame_bytes, Gave, SourceState, Registers, State, Item, Static, Parameter, IsReady, IsThere, Does, loaded_of, at_place, does_without_step, with_facts_hold, Facts, after_word, no_facts, word_item, Planned, holds, Here, AreCarriedOut, below_return_steps, known_from, static_entry_steps, stores_steps, with_argument, ArgumentsLie, InRegister, InWord, IsSound, Know, BodyContext, ReturnLies, at_start, HasBegun}
-use Rattle.statements8080.specs.Plans.{word}
+use Rattle.statements8080.specs.internal.Plans.{word}
 use Rattle.procedure_laws.proofs.Planned.{EndsKnowing, IsBehind, holds_last, word_behind}
 use Rattle.procedure_laws.proofs.Puts.{AreVariables, EachApart, Slot, put, put_down, set_all, set_down}
 use Rattle.procedure_laws.proofs.Static.StaticArguments.{IsBelow, below_does}

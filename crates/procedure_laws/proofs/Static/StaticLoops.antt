@@ -1,7 +1,7 @@
 -- Arguments on the stack go to their parameters, from the last of them on.
 use Rattle.procedure_laws.proofs.Prelude.{◌≡◌, ℕ, zero, suc, ◌+◌, ◌-◌, ◌*◌, ◌/◌, ◌%◌, ◌<◌, ◌≤◌, false, List, [], ◌∷◌, ◌++◌, length, slice_get, Option, Some, None, refl, sym, ap, subst, ◌∙◌, arith, MEMORY_SIZE, byte_at, byte_small, Event, ScalarType, Byte, Address, frame_bytes, Outcome, SourceState, Instr, Pop, HoldBytes, Registers, State, with_popped, wrap, Item, WordForm, size_of_instruction, Location, Static, Place, Parameter, Activation, IsThere, IsVariable, Does, loaded_of, at_place, both_there, place_at, Facts, after, after_word, word_item, Planned, plain, Here, AreCarriedOut, argument_facts, known_at, known_from, pair_of, popped_argument_steps, popped_at, popped_from, store_argument, with_argument, InRegister, InWord, IsSound, popped_bytes, BodyContext, byte_as_low, high_of_sum, low_of_sum}
 use Rattle.asm8080.specs.declared.item.Item.TheVariants as items
-use Rattle.statements8080.specs.Plans.{word}
+use Rattle.statements8080.specs.internal.Plans.{word}
 use Rattle.procedure_laws.proofs.Planned.{IsBehind, plain_behind, word_behind}
 use Rattle.procedure_laws.proofs.Puts.{IsPart, Slot, put, put_down, put_nth}
 use Rattle.procedure_laws.proofs.Static.StaticStages.{Underway, pop_goes, store_form, store_goes}

@@ -7,12 +7,12 @@ use Rattle.typed_trees.specs.Sizes.{size_of_object}
 use Rattle.typed_trees.specs.TypedTrees.{TypedModule, TypedObject, TypedProcedure}
 use Rattle.typed_trees.specs.WellTyped.{Within}
 use Rattle.meaning.specs.Meaning.{later_by}
-use Rattle.treecode.specs.Homes.{frame_number}
-use Rattle.treecode.specs.Lowered.{labels_numbered_in_list}
+use Rattle.treecode.specs.internal.Homes.{frame_number}
+use Rattle.treecode.specs.internal.Lowered.{labels_numbered_in_list}
 use Rattle.frames.specs.declared.frame_plan.FramePlan.{FramePlan}
-use Rattle.frames.specs.Frames.{distance_of, return_of}
-use Rattle.code_meaning.specs.Activations.{Activation}
-use Rattle.steps8080.specs.Facts.{no_facts}
+use Rattle.frames.specs.internal.Frames.{distance_of, return_of}
+use Rattle.code_meaning.specs.internal.Activations.{Activation}
+use Rattle.steps8080.specs.internal.Facts.{no_facts}
 use Rattle.statements8080.specs.declared.body.Body.{Body}
 use Rattle.statement_laws.specs.internal.CodeContexts.{Context}
 use Rattle.statement_laws.specs.internal.Bodies.{BodyContext}

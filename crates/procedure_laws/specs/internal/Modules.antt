@@ -31,13 +31,13 @@ use Rattle.treecode.specs.declared.place.Home.TheVariants.{Static}
 use Rattle.treecode.specs.declared.place.Place.{Place}
 use Rattle.treecode.specs.declared.procedure.ProcedureKind.TheVariants as kinds
 use Rattle.treecode.specs.declared.procedure.TreeProcedure.{TreeProcedure}
-use Rattle.treecode.specs.Lowered.{IsLowered}
-use Rattle.treecode.specs.Nodes.{home_at, nodes_of}
-use Rattle.treecode.specs.Resolved.{Resolves}
-use Rattle.frames.specs.Frames.{HasNothing, IsPlanOf}
-use Rattle.code_meaning.specs.Activations.{Activation, IsThere, PlacementLies, Loaded}
-use Rattle.code_meaning.specs.Holding.{place_at}
-use Rattle.steps8080.specs.Facts.{no_facts}
+use Rattle.treecode.specs.internal.Lowered.{IsLowered}
+use Rattle.treecode.specs.internal.Nodes.{home_at, nodes_of}
+use Rattle.treecode.specs.internal.Resolved.{Resolves}
+use Rattle.frames.specs.internal.Frames.{HasNothing, IsPlanOf}
+use Rattle.code_meaning.specs.internal.Activations.{Activation, IsThere, PlacementLies, Loaded}
+use Rattle.code_meaning.specs.internal.Holding.{place_at}
+use Rattle.steps8080.specs.internal.Facts.{no_facts}
 use Rattle.exprgen8080.specs.internal.Emission.{has_routine, module_label_of_routine}
 use Rattle.statements8080.specs.declared.body.Body.{Body}
 use Rattle.statement_laws.specs.Here.{Here}

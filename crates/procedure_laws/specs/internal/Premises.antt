@@ -10,8 +10,8 @@ use Rattle.treecode.specs.declared.module.TreeModule.{TreeModule}
 use Rattle.treecode.specs.declared.procedure.ProcedureKind.TheVariants as kinds
 use Rattle.treecode.specs.declared.procedure.TreeProcedure.{TreeProcedure}
 use Rattle.frames.specs.declared.frame_plan.FramePlan.{FramePlan}
-use Rattle.frames.specs.Frames.{IsPlanOf, return_of}
-use Rattle.code_meaning.specs.Activations.{IsThere}
+use Rattle.frames.specs.internal.Frames.{IsPlanOf, return_of}
+use Rattle.code_meaning.specs.internal.Activations.{IsThere}
 use Rattle.steps8080.specs.declared.facts.Facts.{Facts}
 use Rattle.statements8080.specs.declared.body.Body.{Body}
 use Rattle.statement_laws.specs.Here.{Here}

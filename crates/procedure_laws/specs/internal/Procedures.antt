@@ -6,7 +6,7 @@ use Rattle.meaning.specs.Meaning.{frame_of, parameters_set}
 use Rattle.meaning.specs.Outcomes.{State as SourceState}
 use Rattle.isa8080.specs.State.{HoldBytes, Registers, State, wrap}
 use Rattle.asm8080.specs.Standing.{Keeps}
-use Rattle.code_meaning.specs.Activations.{IsReady, Shares, loaded_of}
+use Rattle.code_meaning.specs.internal.Activations.{IsReady, Shares, loaded_of}
 use Rattle.code_meaning.specs.Landing.{Does, Lands, at_place}
 use Rattle.steps8080.specs.declared.facts.Facts.{Facts}
 use Rattle.statement_laws.specs.internal.CodeContexts.{ResultLies, bytes_pushed}

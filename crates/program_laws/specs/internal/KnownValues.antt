@@ -9,8 +9,8 @@ use Rattle.layout.specs.Storage.{storage_with}
 use Rattle.meaning.specs.Meaning.{Later, value}
 use Rattle.meaning.specs.Outcomes.{Gave, Program, State}
 use Rattle.treecode.specs.declared.place.Place.{Place}
-use Rattle.treecode.specs.Homes.{externals_of, homes_of}
-use Rattle.treecode.specs.Known.{known_value}
+use Rattle.treecode.specs.internal.Homes.{externals_of, homes_of}
+use Rattle.treecode.specs.internal.Known.{known_value}
 use Rattle.treecode_laws.specs.internal.Places.{location_of_place}
 use Rattle.procedure_laws.specs.OneModule.{around_in}
 use Rattle.program_laws.specs.OneModule.{LiesInMemory}

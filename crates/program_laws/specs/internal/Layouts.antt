@@ -9,8 +9,8 @@ use Rattle.layout.specs.Following.{base_of}
 use Rattle.layout.specs.Segments.{ExternalName, SegmentStart, Target as ModuleTarget}
 use Rattle.treecode.specs.declared.module.ExternalName.{ExternalName as TreeExternal}
 use Rattle.treecode_laws.specs.internal.Places.{name_at}
-use Rattle.steps8080.specs.Externals.{entry}
-use Rattle.steps8080.specs.Writer.{Written}
+use Rattle.steps8080.specs.internal.Externals.{entry}
+use Rattle.steps8080.specs.internal.Writer.{Written}
 use Rattle.program_laws.specs.OneModule.{bases_at}
 
 -- what the locations of a module are counted from: its segments, and its EXTERNAL names

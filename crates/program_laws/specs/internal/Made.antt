@@ -4,9 +4,9 @@ use Rattle.object_modules.specs.Module.{IsObjectModule, ObjectModule}
 use Rattle.typed_trees.specs.TypedTrees.{TypedModule}
 use Rattle.layout.specs.Storage.{Storage}
 use Rattle.treecode.specs.declared.module.TreeModule.{TreeModule}
-use Rattle.treecode.specs.Lowered.{IsLowered}
+use Rattle.treecode.specs.internal.Lowered.{IsLowered}
 use Rattle.procedure_laws.specs.internal.GeneratedModules.{IsGenerated}
-use Rattle.treecode_laws.specs.Laid.{IsLaidOut}
+use Rattle.treecode_laws.specs.internal.Laid.{IsLaidOut}
 
 -- An object module is made of a module, with its storage, by tree code that is this module. It is valid.
 pub record IsMadeOf (typed : TypedModule) (object : ObjectModule) : Type 0 where

@@ -4,8 +4,8 @@ use Rattle.object_modules.specs.Module.{ObjectModule}
 use Rattle.typed_trees.specs.TypedTrees.{TypedModule}
 use Rattle.layout.specs.Sound.{IsSoundlyTyped}
 use Rattle.treecode.specs.declared.module.TreeModule.{TreeModule}
-use Rattle.treecode.specs.Nodes.{NumbersAreWords, nodes_of}
-use Rattle.treecode.specs.HomeWords.{HomesAreWords}
+use Rattle.treecode.specs.internal.Nodes.{NumbersAreWords, nodes_of}
+use Rattle.treecode.specs.internal.HomeWords.{HomesAreWords}
 use Rattle.program_laws.specs.internal.Made.{IsMadeOf}
 
 -- tree code whose numbers are those of an 8080: words

@@ -3,7 +3,7 @@ use Rattle.std.specs.Prelude.{ℕ, ◌+◌, ◌-◌, List, [], ◌∷◌, ◌++�
 use Rattle.typed_trees.specs.TypedTrees.{TypedIteration}
 use Rattle.stack_code.specs.declared.instruction.Instruction.{Instruction}
 use Rattle.stack_code.specs.declared.instruction.Instruction.TheVariants.{Drop, LoopBack, Step}
-use Rattle.stack_code.specs.Code.{Site, ToRead, ToWrite, value_or, variable_code}
+use Rattle.stack_code.specs.internal.Code.{Site, ToRead, ToWrite, value_or, variable_code}
 
 -- the variable is changed by the step
 abbrev pub stepping_code : Site → TypedIteration → List Instruction

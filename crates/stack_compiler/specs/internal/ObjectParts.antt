@@ -5,7 +5,7 @@ use Rattle.trees.specs.declared.declaration.ScalarType.TheVariants.{Address}
 use Rattle.typed_trees.specs.TypedTrees.{TypedReference, PartOf, Subscript, NoSubscript}
 use Rattle.meaning.specs.Access.{address_of}
 use Rattle.stack_code.specs.declared.instruction.Instruction.{Instruction}
-use Rattle.stack_code.specs.Code.{Site, Purpose, ToRead, surroundings_at, instruction_after, instruction_of_frame, part_of, part_at, variable_code, summed, added_to_bytes, index_code, scaled_code}
+use Rattle.stack_code.specs.internal.Code.{Site, Purpose, ToRead, surroundings_at, instruction_after, instruction_of_frame, part_of, part_at, variable_code, summed, added_to_bytes, index_code, scaled_code}
 
 -- the bytes that subscripts stand for
 abbrev pub bytes_code : Site → (first second : Subscript) → List Instruction

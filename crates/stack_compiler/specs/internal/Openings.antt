@@ -3,7 +3,7 @@ use Rattle.std.specs.Prelude.{ℕ, ◌+◌, ◌-◌, List, [], ◌∷◌, ◌++�
 use Rattle.typed_trees.specs.TypedTrees.{TypedStatement, TypedStatements, NoStatements, MoreStatements}
 use Rattle.stack_code.specs.declared.instruction.Instruction.{Instruction}
 use Rattle.stack_code.specs.declared.instruction.Instruction.TheVariants.{Jump}
-use Rattle.stack_code.specs.Code.{Site, statement_code}
+use Rattle.stack_code.specs.internal.Code.{Site, statement_code}
 
 -- `count` jumps that are filled in later
 abbrev pub holes : (count : ℕ) → List Instruction

@@ -1,5 +1,5 @@
 -- What is done with a part of an object, as the code holds it.
-use Rattle.stack_code.specs.Code.{Purpose, ToRead, ToWrite, ToLocate}
+use Rattle.stack_code.specs.internal.Code.{Purpose, ToRead, ToWrite, ToLocate}
 use Rattle.stack_compiler.specs.declared.purpose.Purpose.{Purpose as CodePurpose}
 use Rattle.stack_compiler.specs.declared.purpose.Purpose.TheVariants.{Reading, Writing, Locating}
 

@@ -3,7 +3,7 @@ use Rattle.std.specs.Prelude.{ℕ, ◌+◌, List, [], ◌∷◌, ◌++◌}
 use Rattle.typed_trees.specs.TypedTrees.{TypedProcedure, TypedModule}
 use Rattle.layout.specs.Placement.{Placement}
 use Rattle.stack_code.specs.declared.instruction.Instruction.{Instruction}
-use Rattle.stack_code.specs.Code.{Site, procedure_code, site_of}
+use Rattle.stack_code.specs.internal.Code.{Site, procedure_code, site_of}
 
 abbrev pub procedures_code_from : Site → (number : ℕ) → List TypedProcedure → List Instruction
 procedures_code_from site number [] = []

@@ -2,7 +2,7 @@
 use Rattle.std.specs.Prelude.{map}
 use Rattle.typed_trees.specs.Views.{module_view}
 use Rattle.placing.specs.Views.{placement_view}
-use Rattle.stack_code.specs.Code.{Site}
+use Rattle.stack_code.specs.internal.Code.{Site}
 use Rattle.stack_compiler.specs.declared.site.Site.{Site as CodeSite}
 
 abbrev pub site_view : CodeSite → Site

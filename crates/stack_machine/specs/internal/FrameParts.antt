@@ -2,7 +2,7 @@
 use Rattle.std.specs.Prelude.{◌≡◌, ℕ, ◌+◌, ◌^◌, ◌<◌, Bool, true, false, ◌&&◌, List, Option, Some, None}
 use Rattle.stack_code.specs.declared.instruction.FramePart.{FramePart}
 use Rattle.stack_code.specs.declared.instruction.FrameSubscript.{FrameSubscript}
-use Rattle.stack_code.specs.Machine.{bytes_by, is_inside, top, without_index}
+use Rattle.stack_code.specs.internal.Machine.{bytes_by, is_inside, top, without_index}
 
 -- the displacement by a subscript, if it is below its dimension
 abbrev pub IsDisplacement : FrameSubscript → (index : ℕ) → Option ℕ → Type 0

@@ -1,7 +1,7 @@
 -- Assignments.
 use Rattle.statement_laws.proofs.Prelude.{◌≡◌, ℕ, ◌+◌, ◌*◌, ◌<◌, ◌≤◌, Bool, true, false, if◌then◌else◌, List, [], ◌∷◌, ◌++◌, Option, Some, None, refl, sym, ap, ◌∙◌, ScalarType, Byte, Address, height_of, height_of_reference, height_of_target, type_of, TypedExpression, TypedReference, TypedTarget, SentTo, StoredIn, RefersToScalar, TypesHold, TypesHoldInReference, TypesHoldInTarget, value, SourceState, Outcome, Gave, Instr, MovToMemory, A, Registers, State, ExpressionNumber, Reference, Target, Stored, Sent, IsExpressionIn, IsReference, IsSent, IsStored, IsTarget, Facts, Site, location_of, number, value_task, knowing, Planned, byte_steps, count_of, from_byte_steps, from_word_steps, is_address_first, number_steps, other_byte_steps, other_word_steps, single_steps, word_steps, is_near, part, Here, site_of, nodes_in, number_small, number_means, BodyContext, IsSoundBody, value_is_word}
 use Rattle.steps8080.specs.declared.step.Task.TheVariants as tasks
-use Rattle.statements8080.specs.Plans.{plain}
+use Rattle.statements8080.specs.internal.Plans.{plain}
 use Rattle.statement_laws.proofs.Assignments.Firsts.{address_first_does}
 use Rattle.statement_laws.proofs.FirstSteps.{Stand}
 use Rattle.statement_laws.proofs.Outcomes.{Between}
@@ -118,7 +118,7 @@ module _
               | Some n ↦ part (tasks.Address reference) 0
                   ∷ plain (Rattle.isa8080.specs.declared.instr.Instr.TheVariants.Mvi
                   Rattle.isa8080.specs.declared.instr.Operand.TheVariants.M
-                  (Rattle.steps8080.specs.Instructions.low n)) ∷ []
+                  (Rattle.steps8080.specs.internal.Instructions.low n)) ∷ []
               | None ↦ elim (count_of site reference of) as (λ (one : Option Instr). List Planned) [
                 | Some instruction ↦ part (tasks.Address reference) 0 ∷ plain instruction ∷ []
                 | None ↦ other_byte_steps site reference of

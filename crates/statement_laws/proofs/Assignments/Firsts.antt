@@ -1,7 +1,7 @@
 -- A BYTE whose address comes before its value.
 use Rattle.statement_laws.proofs.Prelude.{◌≡◌, ℕ, ◌+◌, ◌*◌, ◌≤◌, Bool, true, false, ◌&&◌, not, List, ◌∷◌, Option, Some, None, refl, sym, ap, subst, ◌∙◌, arith, ScalarType, Byte, height_of, height_of_reference, type_of, TypedExpression, TypedReference, StoredIn, RefersToScalar, TypesHold, TypesHoldInReference, write_byte, write_scalar, located, value, SourceState, Outcome, Gave, Stopped, then_do, as_type, MovToMemory, A, Registers, State, word, ExpressionNumber, Reference, IndexNode, IsExpressionIn, IsReference, reference_is_quiet, subscript_is_quiet, AreAlike, AreSame, BothOutside, stores_nothing, free_stores_nothing, location_exchanged, Does, Loaded, IsSteady, place_at, address_asks, Facts, is_free, keeps_of_address, knowing, Planned, is_address_first, is_quiet_subscript, part, Here, distances_in, nodes_in, ByteIsGiven, address_on_machine, located_fits, free_is, quiet_is, at_byte, does_same, BodyContext, IsSoundBody, and_from, does_outside}
 use Rattle.steps8080.specs.declared.step.Task.TheVariants as tasks
-use Rattle.statements8080.specs.Plans.{plain}
+use Rattle.statements8080.specs.internal.Plans.{plain}
 use Rattle.statement_laws.proofs.FirstSteps.{Stand, part_first, plain_first}
 use Rattle.statement_laws.proofs.Outcomes.{Between}
 use Rattle.statement_laws.proofs.Assignments.Singles.{Goal, Rest, at_address, byte_goes}

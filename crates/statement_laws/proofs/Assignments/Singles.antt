@@ -3,7 +3,7 @@ use Rattle.statement_laws.proofs.Prelude.{◌≡◌, ℕ, ◌+◌, ◌*◌, ◌/
 use Rattle.meaning.specs.Access.{Place}
 use Rattle.asm8080.specs.declared.item.Item.TheVariants as items
 use Rattle.steps8080.specs.declared.step.Task.TheVariants as tasks
-use Rattle.statements8080.specs.Plans.{plain}
+use Rattle.statements8080.specs.internal.Plans.{plain}
 use Rattle.statement_laws.proofs.FirstSteps.{Stand, going, part_first, plain_first}
 use Rattle.statement_laws.proofs.Assignments.Gains.{target_spares}
 use Rattle.statement_laws.proofs.Outcomes.{Between}

@@ -79,7 +79,7 @@ pub leaves_whole :
     {from : State} {outcome : Outcome Flow}
     → spent ≤ budget
     → spent < at.context.number
-    → Rattle.code_meaning.specs.Activations.HasRoom at.context.activation at.context.activation.level 0 need
+    → Rattle.code_meaning.specs.internal.Activations.HasRoom at.context.activation at.context.activation.level 0 need
     → Does (loaded_in at.context) spent 0 from outcome (Leaves at base middle here spent)
     → ((u : SourceState) (now : Registers) (memory_now : List ℕ)
     → here.goes_on ≡ true

@@ -106,7 +106,7 @@ into_table_goes {at = at} {base = base} {need = need} {from = from} {facts = fac
         → start ≡ record r { h = start.h; l = start.l }
         → Stage at.context at.context.activation.level 0 need base u facts r memory → (place : ℕ)
         → Stage at.context at.context.activation.level 0 need base u
-        (Rattle.steps8080.specs.Facts.without_hl facts)
+        (Rattle.steps8080.specs.internal.Facts.without_hl facts)
         (record r { h = high_byte (wrap place); l = low_byte (wrap place) }) memory
     loaded start sp a flags same stage place =
         let held = stage.ready.registers in

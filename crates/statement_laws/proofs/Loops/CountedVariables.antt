@@ -3,7 +3,7 @@ use Rattle.statement_laws.proofs.Prelude.{◌≡◌, ℕ, ◌+◌, ◌%◌, ◌<
 use Rattle.layout.specs.Storage.{Storage}
 use Rattle.treecode.specs.declared.place.Home.TheVariants as homes
 use Rattle.treecode.specs.declared.traits.Keeps.{Keeps}
-use Rattle.steps8080.specs.Queries.{located}
+use Rattle.steps8080.specs.internal.Queries.{located}
 
 -- a whole object, as the source refers to it
 abbrev pub whole_tree : (object : ℕ) → TypedReference

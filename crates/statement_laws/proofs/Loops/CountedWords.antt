@@ -64,7 +64,7 @@ pub counts_word :
     → (counts : CountsWords loop last limit turn turn_facts)
     → (counts.counted).location ≡ locations.Static place
     → Steps at.context facts from
-    (Rattle.steps8080.specs.Step.plain (compared_and_counted last) ++ stored_and_on place turn) found to
+    (Rattle.steps8080.specs.internal.Step.plain (compared_and_counted last) ++ stored_and_on place turn) found to
     → t.budget ≤ limit
     → StageAt at loop.need loop.base t facts r memory
     → r.l ≡ byte_at memory (variable_address at.context (loop.head).variable)

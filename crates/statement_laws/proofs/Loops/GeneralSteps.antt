@@ -4,7 +4,7 @@ use Rattle.treecode.specs.declared.place.Location.TheVariants as locations
 use Rattle.steps8080.specs.declared.step.Step.TheVariants as steps
 use Rattle.steps8080.specs.declared.step.Task.TheVariants as tasks
 use Rattle.statements8080.specs.declared.plan.Planned.TheVariants as planned
-use Rattle.statements8080.specs.Plans.{plain, word}
+use Rattle.statements8080.specs.internal.Plans.{plain, word}
 use Rattle.statement_laws.proofs.Assignments.Assigned.{scalar_there}
 use Rattle.statement_laws.proofs.Loops.CountedVariables.{IsCounted}
 use Rattle.statement_laws.proofs.Loops.GeneralParts.{AreCode, StepDoes, all_code, both_code, run_parted}

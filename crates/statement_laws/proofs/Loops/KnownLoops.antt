@@ -120,22 +120,22 @@ byte_turns {at = at} loop head list last is_tested end turn facts from iterates 
 
     by_last : (great : Bool) → nat_le 255 last ≡ great
         → Stand at listed.after None listed.middle
-        ((Rattle.statements8080.specs.Plans.part
+        ((Rattle.statements8080.specs.internal.Plans.part
         (Rattle.steps8080.specs.declared.step.Task.TheVariants.Address (whole (loop.head).variable)) 0
-        ∷ (if great then Rattle.statements8080.specs.Plans.plain
+        ∷ (if great then Rattle.statements8080.specs.internal.Plans.plain
         (Rattle.isa8080.specs.declared.instr.Instr.TheVariants.Inr
         Rattle.isa8080.specs.declared.instr.Operand.TheVariants.M)
-        ∷ Rattle.statements8080.specs.Plans.jump
+        ∷ Rattle.statements8080.specs.internal.Plans.jump
         (Rattle.asm8080.specs.declared.item.WordForm.TheVariants.JumpWhere
         Rattle.isa8080.specs.declared.instr.Condition.TheVariants.NotZero) turn ∷ []
-        else Rattle.statements8080.specs.Plans.all
-        (Rattle.steps8080.specs.Instructions.load Rattle.isa8080.specs.declared.instr.Register.TheVariants.A
+        else Rattle.statements8080.specs.internal.Plans.all
+        (Rattle.steps8080.specs.internal.Instructions.load Rattle.isa8080.specs.declared.instr.Register.TheVariants.A
         ∷ Rattle.isa8080.specs.declared.instr.Instr.TheVariants.AccumulateImmediate
         Rattle.isa8080.specs.declared.instr.Operation.TheVariants.Compare
-        (Rattle.steps8080.specs.Instructions.low last)
+        (Rattle.steps8080.specs.internal.Instructions.low last)
         ∷ Rattle.isa8080.specs.declared.instr.Instr.TheVariants.Inr
         Rattle.isa8080.specs.declared.instr.Operand.TheVariants.M ∷ [])
-        ++ (Rattle.statements8080.specs.Plans.jump
+        ++ (Rattle.statements8080.specs.internal.Plans.jump
         (Rattle.asm8080.specs.declared.item.WordForm.TheVariants.JumpWhere
         Rattle.isa8080.specs.declared.instr.Condition.TheVariants.Carry) turn ∷ [])))
         ++ (asked_mark is_tested end ++ (planned.Reaches true ∷ []))) loop.after loop.to
@@ -193,10 +193,10 @@ pub word_turns :
     (Some (locations.Static place)))) true
     ∷ planned.List list
     ∷ ((planned.LoadWord (whole (loop.head).variable)
-    ∷ (Rattle.statements8080.specs.Plans.all (compared_and_counted last)
-    ++ (Rattle.statements8080.specs.Plans.word
+    ∷ (Rattle.statements8080.specs.internal.Plans.all (compared_and_counted last)
+    ++ (Rattle.statements8080.specs.internal.Plans.word
     Rattle.asm8080.specs.declared.item.WordForm.TheVariants.StoreHl place
-    ∷ Rattle.statements8080.specs.Plans.jump
+    ∷ Rattle.statements8080.specs.internal.Plans.jump
     (Rattle.asm8080.specs.declared.item.WordForm.TheVariants.JumpWhere
     Rattle.isa8080.specs.declared.instr.Condition.TheVariants.Carry) turn
     ∷ [])))
@@ -238,10 +238,10 @@ word_turns {at = at} loop head list last is_tested end turn facts from place ite
 
     rest_of_code : List Planned
     rest_of_code =
-        Rattle.statements8080.specs.Plans.all (compared_and_counted last)
-        ++ (Rattle.statements8080.specs.Plans.word
+        Rattle.statements8080.specs.internal.Plans.all (compared_and_counted last)
+        ++ (Rattle.statements8080.specs.internal.Plans.word
         Rattle.asm8080.specs.declared.item.WordForm.TheVariants.StoreHl place
-        ∷ Rattle.statements8080.specs.Plans.jump
+        ∷ Rattle.statements8080.specs.internal.Plans.jump
         (Rattle.asm8080.specs.declared.item.WordForm.TheVariants.JumpWhere
         Rattle.isa8080.specs.declared.instr.Condition.TheVariants.Carry) turn
         ∷ [])
@@ -265,9 +265,9 @@ word_turns {at = at} loop head list last is_tested end turn facts from place ite
     lies : counted.location ≡ locations.Static place
     lies = same_Some _ _ (sym (counted.located facts) ∙ is)
 
-    at_place_is : address ≡ Rattle.code_meaning.specs.Holding.location_at at.context.activation
+    at_place_is : address ≡ Rattle.code_meaning.specs.internal.Holding.location_at at.context.activation
         (Rattle.task_laws.specs.internal.Contexts.distances_in at.context) (locations.Static place)
-    at_place_is = counted.is_there ∙ ap (Rattle.code_meaning.specs.Holding.location_at at.context.activation
+    at_place_is = counted.is_there ∙ ap (Rattle.code_meaning.specs.internal.Holding.location_at at.context.activation
         (Rattle.task_laws.specs.internal.Contexts.distances_in at.context)) lies
 
     counts : (limit : ℕ) → limit < loop.budget → Runs loop limit from turn_facts (from_list loop)
@@ -285,9 +285,9 @@ word_turns {at = at} loop head list last is_tested end turn facts from place ite
       enters = λ r memory low high steady steady_too.
           second_meets at.context r memory facts (word_fact counter)
           (word_known at.context r memory (locations.Static place)
-          (subst (λ (n : ℕ). Rattle.code_meaning.specs.Holding.IsSteady at.context.activation n) at_place_is
+          (subst (λ (n : ℕ). Rattle.code_meaning.specs.internal.Holding.IsSteady at.context.activation n) at_place_is
           steady)
-          (subst (λ (n : ℕ). Rattle.code_meaning.specs.Holding.IsSteady at.context.activation (wrap (n + 1)))
+          (subst (λ (n : ℕ). Rattle.code_meaning.specs.internal.Holding.IsSteady at.context.activation (wrap (n + 1)))
           at_place_is steady_too)
           (low ∙ ap (Rattle.mem80.specs.Memory.byte_at memory) at_place_is)
           (high ∙ ap (λ (n : ℕ). Rattle.mem80.specs.Memory.byte_at memory (wrap (n + 1))) at_place_is));

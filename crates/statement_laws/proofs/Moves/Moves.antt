@@ -26,17 +26,17 @@ ends_by None false source destination pushed =
 
 ends_are : (found : Option Place) (keeps_de : Bool) (source destination : ExpressionNumber) (pushed : ℕ)
     → (elim found [
-      | Some place ↦ Rattle.statements8080.specs.Plans.part (tasks.Word destination) pushed
-          ∷ Rattle.statements8080.specs.Plans.word (LoadPair De) place ∷ []
+      | Some place ↦ Rattle.statements8080.specs.internal.Plans.part (tasks.Word destination) pushed
+          ∷ Rattle.statements8080.specs.internal.Plans.word (LoadPair De) place ∷ []
       | None ↦
           if keeps_de
-          then Rattle.statements8080.specs.Plans.part (tasks.Word source) pushed
-          ∷ Rattle.statements8080.specs.Plans.plain Xchg
-          ∷ Rattle.statements8080.specs.Plans.part (tasks.Word destination) pushed ∷ []
-          else Rattle.statements8080.specs.Plans.part (tasks.Word source) pushed
-          ∷ Rattle.statements8080.specs.Plans.plain (Push StackHl)
-          ∷ Rattle.statements8080.specs.Plans.part (tasks.Word destination) (min (pushed + 2) 65535)
-          ∷ Rattle.statements8080.specs.Plans.plain (Pop StackDe)
+          then Rattle.statements8080.specs.internal.Plans.part (tasks.Word source) pushed
+          ∷ Rattle.statements8080.specs.internal.Plans.plain Xchg
+          ∷ Rattle.statements8080.specs.internal.Plans.part (tasks.Word destination) pushed ∷ []
+          else Rattle.statements8080.specs.internal.Plans.part (tasks.Word source) pushed
+          ∷ Rattle.statements8080.specs.internal.Plans.plain (Push StackHl)
+          ∷ Rattle.statements8080.specs.internal.Plans.part (tasks.Word destination) (min (pushed + 2) 65535)
+          ∷ Rattle.statements8080.specs.internal.Plans.plain (Pop StackDe)
           ∷ []
     ])
     ≡ map planned.Code (ends_by found keeps_de source destination pushed)
@@ -374,10 +374,10 @@ move_by :
       | Some here ↦ Rattle.statements8080.specs.internal.Moves.known_move_steps
           (knowing at.context.site before) here source destination
       | None ↦
-          Rattle.statements8080.specs.Plans.part (tasks.Word count) 0
-          ∷ Rattle.statements8080.specs.Plans.plain (Push StackHl)
+          Rattle.statements8080.specs.internal.Plans.part (tasks.Word count) 0
+          ∷ Rattle.statements8080.specs.internal.Plans.plain (Push StackHl)
           ∷ (ends_steps (knowing at.context.site before) source destination 2
-          ++ (Rattle.statements8080.specs.Plans.plain (Pop StackBc)
+          ++ (Rattle.statements8080.specs.internal.Plans.plain (Pop StackBc)
           ∷ planned.Code (steps.CallRoutine Move) ∷ []))
     ]) after to
     → Stage at.context at.context.activation.level 0 need base s before r memory
@@ -421,10 +421,10 @@ move_by {at = at} {base = base} {to = to} {need = need} {after = after} {before 
           | Some here ↦ Rattle.statements8080.specs.internal.Moves.known_move_steps site
               here source destination
           | None ↦
-              Rattle.statements8080.specs.Plans.part (tasks.Word count) 0
-              ∷ Rattle.statements8080.specs.Plans.plain (Push StackHl)
+              Rattle.statements8080.specs.internal.Plans.part (tasks.Word count) 0
+              ∷ Rattle.statements8080.specs.internal.Plans.plain (Push StackHl)
               ∷ (ends_steps site source destination 2
-              ++ (Rattle.statements8080.specs.Plans.plain (Pop StackBc)
+              ++ (Rattle.statements8080.specs.internal.Plans.plain (Pop StackBc)
               ∷ planned.Code (steps.CallRoutine Move) ∷ []))
         ]) after to
         → Does (loaded_in at.context) s.budget 0 (at_place place r memory s.events)
@@ -432,11 +432,11 @@ move_by {at = at} {base = base} {to = to} {need = need} {after = after} {before 
     by (Some here) is stand =
         let number : ℕ = place_at at.context.activation.layout here in
         let ends = code_parted (ends_by the_source keeps_de source destination 0)
-        (Rattle.statements8080.specs.Plans.word (LoadPair Bc) here
+        (Rattle.statements8080.specs.internal.Plans.word (LoadPair Bc) here
         ∷ planned.Code (steps.CallRoutine Move) ∷ [])
         (record { facts = before; goes_on = true }) place
         (subst (λ (list : List Planned). Stand at (record { facts = before; goes_on = true }) None place
-        (list ++ (Rattle.statements8080.specs.Plans.word (LoadPair Bc) here
+        (list ++ (Rattle.statements8080.specs.internal.Plans.word (LoadPair Bc) here
         ∷ planned.Code (steps.CallRoutine Move) ∷ [])) after to)
         (ends_are the_source keeps_de source destination 0) stand) in
         let call = code_parted (steps.Word (LoadPair Bc) here ∷ steps.CallRoutine Move ∷ []) []
@@ -467,15 +467,15 @@ move_by {at = at} {base = base} {to = to} {need = need} {after = after} {before 
     by None is stand =
         let first = code_parted (word_part count 0 ∷ steps.Plain (Push StackHl) ∷ [])
         (ends_steps site source destination 2
-        ++ (Rattle.statements8080.specs.Plans.plain (Pop StackBc)
+        ++ (Rattle.statements8080.specs.internal.Plans.plain (Pop StackBc)
         ∷ planned.Code (steps.CallRoutine Move) ∷ []))
         (record { facts = before; goes_on = true }) place stand in
         let ends = code_parted (ends_by the_source keeps_de source destination 2)
-        (Rattle.statements8080.specs.Plans.plain (Pop StackBc) ∷ planned.Code (steps.CallRoutine Move) ∷ [])
+        (Rattle.statements8080.specs.internal.Plans.plain (Pop StackBc) ∷ planned.Code (steps.CallRoutine Move) ∷ [])
         (record { facts = first.known; goes_on = true }) first.middle
         (subst (λ (list : List Planned). Stand at
         (record { facts = first.known; goes_on = true }) None first.middle
-        (list ++ (Rattle.statements8080.specs.Plans.plain (Pop StackBc)
+        (list ++ (Rattle.statements8080.specs.internal.Plans.plain (Pop StackBc)
         ∷ planned.Code (steps.CallRoutine Move) ∷ [])) after to)
         (ends_are the_source keeps_de source destination 2) first.rest) in
         let call = code_parted (steps.Plain (Pop StackBc) ∷ steps.CallRoutine Move ∷ []) []
@@ -533,13 +533,13 @@ move_does at before number count source destination label from after to sound fo
         → IsStatementForm (nodes_in at.context) at.context.storage at.labels number.index
         (statements.Move count source destination) tree
         → TypesHoldIn at.context.typed at.context.within tree
-        → Rattle.code_meaning.specs.Activations.HasRoom at.context.activation at.context.activation.level 0
+        → Rattle.code_meaning.specs.internal.Activations.HasRoom at.context.activation at.context.activation.level 0
         (2 + 2 * height_of_statement tree)
         → Does (loaded_in at.context) s.budget 0 (at_place from r memory s.events)
         (done at.context.later at.context.activation.around tree s) (Leaves at base to after s.budget)
     by_form _ (IsMove {bytes = bytes} {from = from_tree} {to = to_tree} count_is source_is destination_is)
         types room =
-        move_by (Rattle.steps8080.specs.Queries.known (knowing at.context.site before) count) count source
+        move_by (Rattle.steps8080.specs.internal.Queries.known (knowing at.context.site before) count) count source
         destination s r memory
         (record {
           sound = sound;

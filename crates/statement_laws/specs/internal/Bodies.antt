@@ -5,11 +5,11 @@ use Rattle.typed_trees.specs.WellTyped.{Within, WithinProcedure, WithinMain}
 use Rattle.meaning.specs.Meaning.{later_by}
 use Rattle.meaning.specs.Outcomes.{State as SourceState, Outcome, Flow, Onward, Returned, Jumped}
 use Rattle.isa8080.specs.State.{Registers, State}
-use Rattle.code_meaning.specs.Activations.{Arrives, HasRoom, IsReady, IsThere, loaded_of}
+use Rattle.code_meaning.specs.internal.Activations.{Arrives, HasRoom, IsReady, IsThere, loaded_of}
 use Rattle.code_meaning.specs.Landing.{Does, at_place}
 use Rattle.steps8080.specs.declared.facts.Facts.{Facts}
 use Rattle.statements8080.specs.declared.body.Body.{Body}
-use Rattle.statements8080.specs.Bodies.{body_label}
+use Rattle.statements8080.specs.internal.Bodies.{body_label}
 use Rattle.codegen8080.specs.declared.meeting.Here.{Here}
 use Rattle.codegen8080.specs.internal.Generated.{AreCarriedOut, site_of}
 use Rattle.codegen8080.specs.internal.Procedures.{return_steps}

@@ -8,7 +8,7 @@ use Rattle.meaning.specs.Meaning.{done, done_list}
 use Rattle.treecode.specs.declared.lists.Range.{Range}
 use Rattle.treecode.specs.declared.statement.Statement.{Statement}
 use Rattle.treecode.specs.declared.statement.StatementNumber.{StatementNumber}
-use Rattle.treecode.specs.Lowered.{IsList, IsStatement}
+use Rattle.treecode.specs.internal.Lowered.{IsList, IsStatement}
 use Rattle.steps8080.specs.declared.facts.Facts.{Facts}
 use Rattle.exprgen8080.specs.internal.Emission.{knowing}
 use Rattle.statements8080.specs.declared.plan.Planned.{Planned}

@@ -17,19 +17,19 @@ use Rattle.treecode.specs.declared.reference.Reference.{Reference}
 use Rattle.treecode.specs.declared.reference.Subscript.{Subscript}
 use Rattle.treecode.specs.declared.reference.Target.{Target}
 use Rattle.treecode.specs.declared.reference.Target.TheVariants.{Stored, Sent}
-use Rattle.treecode.specs.Queries.{source, target as target_at}
+use Rattle.treecode.specs.internal.Queries.{source, target as target_at}
 use Rattle.steps8080.specs.declared.step.Task.TheVariants as tasks
-use Rattle.steps8080.specs.Instructions.{high, low}
+use Rattle.steps8080.specs.internal.Instructions.{high, low}
 use Rattle.steps8080.specs.declared.sites.site.Site.{Site}
-use Rattle.steps8080.specs.Site.{expression, scalar}
-use Rattle.steps8080.specs.Queries.{is_free, is_quiet, keeps_of_address, location_of, number}
+use Rattle.steps8080.specs.internal.Site.{expression, scalar}
+use Rattle.steps8080.specs.internal.Queries.{is_free, is_quiet, keeps_of_address, location_of, number}
 use Rattle.statements8080.specs.declared.assignment.TargetTypes.{TargetTypes}
 use Rattle.statements8080.specs.declared.assignment.TargetTypes.TheVariants.{Bytes, Words, Mixed}
 use Rattle.statements8080.specs.declared.body.Body.{Body}
 use Rattle.statements8080.specs.declared.plan.Planned.{Planned}
-use Rattle.statements8080.specs.Plans.{part, plain, steps_from}
-use Rattle.statements8080.specs.Bodies.{is_near}
-use Rattle.statements8080.specs.SamePlaces.{are_same}
+use Rattle.statements8080.specs.internal.Plans.{part, plain, steps_from}
+use Rattle.statements8080.specs.internal.Bodies.{is_near}
+use Rattle.statements8080.specs.internal.SamePlaces.{are_same}
 
 -- whether a target takes a word
 abbrev pub takes_word : Target → Bool

@@ -12,19 +12,19 @@ use Rattle.treecode.specs.declared.lists.Range.{Range}
 use Rattle.treecode.specs.declared.statement.StatementNumber.{StatementNumber}
 use Rattle.treecode.specs.declared.statement.Statement.{Statement as TreeStatement}
 use Rattle.treecode.specs.declared.statement.Statement.TheVariants.{Goto}
-use Rattle.treecode.specs.Queries.{statement}
+use Rattle.treecode.specs.internal.Queries.{statement}
 use Rattle.steps8080.specs.declared.step.LabelNumber.{LabelNumber}
 use Rattle.steps8080.specs.declared.step.Task.TheVariants as tasks
-use Rattle.steps8080.specs.Step.{label_of}
+use Rattle.steps8080.specs.internal.Step.{label_of}
 use Rattle.steps8080.specs.declared.sites.site.Site.{Site}
-use Rattle.steps8080.specs.Site.{expression}
-use Rattle.steps8080.specs.Queries.{number}
+use Rattle.steps8080.specs.internal.Site.{expression}
+use Rattle.steps8080.specs.internal.Queries.{number}
 use Rattle.statements8080.specs.declared.body.Body.{Body}
 use Rattle.statements8080.specs.declared.branching.TheConstants.{LOOKED_THROUGH}
 use Rattle.statements8080.specs.declared.plan.Planned.{Planned}
 use Rattle.statements8080.specs.declared.plan.Planned.TheVariants.{Jumped, JumpOn, List as ListOf, Meet, Reaches, Statement, Turn}
-use Rattle.statements8080.specs.Plans.{jump, mark, nth_label, part, plain}
-use Rattle.statements8080.specs.Bodies.{body_label}
+use Rattle.statements8080.specs.internal.Plans.{jump, mark, nth_label, part, plain}
+use Rattle.statements8080.specs.internal.Bodies.{body_label}
 
 -- the expression inside NOT or a conversion of this form
 abbrev pub inner_of_form : ExpressionForm → Option ExpressionNumber

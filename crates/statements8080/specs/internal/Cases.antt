@@ -12,19 +12,19 @@ use Rattle.treecode.specs.declared.expression.ExpressionNumber.{ExpressionNumber
 use Rattle.treecode.specs.declared.lists.Range.{Range}
 use Rattle.treecode.specs.declared.statement.Statement.{Statement as TreeStatement}
 use Rattle.treecode.specs.declared.statement.Statement.TheVariants.{Goto, Null}
-use Rattle.treecode.specs.Queries.{item, statement}
+use Rattle.treecode.specs.internal.Queries.{item, statement}
 use Rattle.steps8080.specs.declared.step.LabelNumber.{LabelNumber}
 use Rattle.steps8080.specs.declared.step.Task.TheVariants as tasks
-use Rattle.steps8080.specs.Instructions.{copy, set}
-use Rattle.steps8080.specs.Step.{label_of}
+use Rattle.steps8080.specs.internal.Instructions.{copy, set}
+use Rattle.steps8080.specs.internal.Step.{label_of}
 use Rattle.steps8080.specs.declared.sites.site.Site.{Site}
-use Rattle.steps8080.specs.Site.{scalar}
-use Rattle.steps8080.specs.Queries.{number}
+use Rattle.steps8080.specs.internal.Site.{scalar}
+use Rattle.steps8080.specs.internal.Queries.{number}
 use Rattle.statements8080.specs.declared.body.Body.{Body}
 use Rattle.statements8080.specs.declared.plan.Planned.{Planned}
 use Rattle.statements8080.specs.declared.plan.Planned.TheVariants.{JumpOn, Reaches, Statement}
-use Rattle.statements8080.specs.Plans.{all, jump, label_at, mark, nth_label, part, plain, steps_from}
-use Rattle.statements8080.specs.Bodies.{body_label}
+use Rattle.statements8080.specs.internal.Plans.{all, jump, label_at, mark, nth_label, part, plain, steps_from}
+use Rattle.statements8080.specs.internal.Bodies.{body_label}
 use Rattle.statements8080.specs.internal.Tests.{less_steps}
 
 -- jumps to the end if no statement has the number in A

@@ -17,20 +17,20 @@ use Rattle.treecode.specs.declared.statement.Iteration.{Iteration}
 use Rattle.steps8080.specs.declared.facts.Facts.{Facts}
 use Rattle.steps8080.specs.declared.step.LabelNumber.{LabelNumber}
 use Rattle.steps8080.specs.declared.step.Task.TheVariants as tasks
-use Rattle.steps8080.specs.Instructions.{copy, high, load, low, set, with_memory, with_register}
-use Rattle.steps8080.specs.Step.{label_of}
+use Rattle.steps8080.specs.internal.Instructions.{copy, high, load, low, set, with_memory, with_register}
+use Rattle.steps8080.specs.internal.Step.{label_of}
 use Rattle.steps8080.specs.declared.sites.site.Site.{Site}
-use Rattle.steps8080.specs.Site.{scalar}
-use Rattle.steps8080.specs.Queries.{known, number}
+use Rattle.steps8080.specs.internal.Site.{scalar}
+use Rattle.steps8080.specs.internal.Queries.{known, number}
 use Rattle.statements8080.specs.declared.body.Body.{Body}
 use Rattle.statements8080.specs.declared.bound.Test.{Test}
 use Rattle.statements8080.specs.declared.iteration.Counter.{Counter}
 use Rattle.statements8080.specs.declared.iteration.LoopLabels.{LoopLabels}
 use Rattle.statements8080.specs.declared.plan.Planned.{Planned}
 use Rattle.statements8080.specs.declared.plan.Planned.TheVariants.{Again, Jumped, List as ListOf, LoadByte, LoadWord, Meet, Reaches}
-use Rattle.statements8080.specs.Plans.{all, jump, mark, nth_label, part, plain, word}
+use Rattle.statements8080.specs.internal.Plans.{all, jump, mark, nth_label, part, plain, word}
 use Rattle.statements8080.specs.internal.Assignments.{single_steps}
-use Rattle.statements8080.specs.Counters.{address_fact, counter_of, counter_place, counts_by_one, has_a_turn, word_fact}
+use Rattle.statements8080.specs.internal.Counters.{address_fact, counter_of, counter_place, counts_by_one, has_a_turn, word_fact}
 use Rattle.statements8080.specs.internal.Tests.{facts_of_test, less_steps, test_of, test_steps}
 
 -- the labels of the general form of a loop, from the first one

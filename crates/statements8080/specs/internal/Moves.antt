@@ -10,10 +10,10 @@ use Rattle.treecode.specs.declared.place.Place.{Place}
 use Rattle.steps8080.specs.declared.step.Step.TheVariants.{CallRoutine}
 use Rattle.steps8080.specs.declared.step.Task.TheVariants as tasks
 use Rattle.steps8080.specs.declared.sites.site.Site.{Site}
-use Rattle.steps8080.specs.Queries.{keeps, known}
+use Rattle.steps8080.specs.internal.Queries.{keeps, known}
 use Rattle.statements8080.specs.declared.plan.Planned.{Planned}
 use Rattle.statements8080.specs.declared.plan.Planned.TheVariants.{Code}
-use Rattle.statements8080.specs.Plans.{part, plain, word}
+use Rattle.statements8080.specs.internal.Plans.{part, plain, word}
 
 -- puts a source that is not known into DE and the destination into HL, when `pushed` bytes are pushed: the
 -- source is in DE meanwhile, or pushed if the code of the destination does not keep DE

@@ -12,22 +12,22 @@ use Rattle.treecode.specs.declared.expression.ExpressionForm.{ExpressionForm}
 use Rattle.treecode.specs.declared.expression.ExpressionForm.TheVariants.{Value}
 use Rattle.treecode.specs.declared.expression.ExpressionNumber.{ExpressionNumber}
 use Rattle.treecode.specs.declared.place.Place.{Place}
-use Rattle.treecode.specs.Homes.{place_after}
+use Rattle.treecode.specs.internal.Homes.{place_after}
 use Rattle.steps8080.specs.declared.facts.Facts.{Facts}
 use Rattle.steps8080.specs.declared.step.LabelNumber.{LabelNumber}
 use Rattle.steps8080.specs.declared.step.Task.TheVariants as tasks
-use Rattle.steps8080.specs.Facts.{no_facts}
-use Rattle.steps8080.specs.Instructions.{copy, high, low, with_memory, with_register}
+use Rattle.steps8080.specs.internal.Facts.{no_facts}
+use Rattle.steps8080.specs.internal.Instructions.{copy, high, low, with_memory, with_register}
 use Rattle.steps8080.specs.declared.sites.site.Site.{Site}
-use Rattle.steps8080.specs.Site.{expression, scalar}
-use Rattle.steps8080.specs.Queries.{direct, number}
+use Rattle.steps8080.specs.internal.Site.{expression, scalar}
+use Rattle.steps8080.specs.internal.Queries.{direct, number}
 use Rattle.statements8080.specs.declared.bound.Test.{Test}
 use Rattle.statements8080.specs.declared.bound.Test.TheVariants as tests
 use Rattle.statements8080.specs.declared.iteration.Counter.{Counter}
 use Rattle.statements8080.specs.declared.plan.Planned.{Planned}
 use Rattle.statements8080.specs.declared.plan.Planned.TheVariants.{LoadByte, LoadWord}
-use Rattle.statements8080.specs.Plans.{all, jump, part, plain, word}
-use Rattle.statements8080.specs.Counters.{address_fact, counter_place, word_fact}
+use Rattle.statements8080.specs.internal.Plans.{all, jump, part, plain, word}
+use Rattle.statements8080.specs.internal.Counters.{address_fact, counter_place, word_fact}
 
 -- the test for a known bound: `Always` if no value of the type is above it
 abbrev pub known_test : ScalarType → (last : ℕ) → Test

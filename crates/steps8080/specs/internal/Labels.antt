@@ -1,7 +1,7 @@
 -- The labels of a module in its code, and those of them that have their places.
 use Rattle.std.specs.Prelude.{◌≡◌, ◌<◌, ◌≤◌, ℕ, Bool, false, List, slice_index_or, length, Option, Some}
 use Rattle.asm8080.specs.Items.{Assembly, is_bound}
-use Rattle.steps8080.specs.Externals.{AreDifferent, entry}
+use Rattle.steps8080.specs.internal.Externals.{AreDifferent, entry}
 
 -- each label in a table is one of the code
 abbrev pub AreOfCode : (labels : List (Option ℕ)) → Assembly → Type 0

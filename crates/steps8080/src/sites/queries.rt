@@ -1,7 +1,7 @@
 //! Queries of a site about the tree, each in O(1).
 
 ghost use Rattle.std.specs.Prelude.{◌≡◌};
-ghost use Rattle.steps8080.specs.Queries.{are_same, base_after, base_of, direct, high_in_memory, is_at_hl, is_free, is_quiet, keeps, keeps_of_address, known, located, location_of, location_of_byte, may_exchange, memory, number as number_of, plain_in_memory, reference_after, same_low_byte, split, split_computed, split_sum, stores_nothing};
+ghost use Rattle.steps8080.specs.internal.Queries.{are_same, base_after, base_of, direct, high_in_memory, is_at_hl, is_free, is_quiet, keeps, keeps_of_address, known, located, location_of, location_of_byte, may_exchange, memory, number as number_of, plain_in_memory, reference_after, same_low_byte, split, split_computed, split_sum, stores_nothing};
 
 use crate::sites::site::Site;
 use treecode::{
@@ -100,7 +100,7 @@ impl<'a> Site<'a> {
     }
 
     /// The value of an expression, if it is known as a number.
-    #[tactic(auto, unfolding(crate::specs::Queries::number))]
+    #[tactic(auto, unfolding(crate::specs::internal::Queries::number))]
     pub fn number(&self, number: ExpressionNumber) -> Option<u16>
         ensures { result ≡ number_of self.now number }
     {
@@ -139,7 +139,7 @@ impl<'a> Site<'a> {
     }
 
     /// The registers that the code putting the address of a part of an object into HL keeps.
-    #[tactic(auto, unfolding(crate::specs::Queries::keeps_of_address))]
+    #[tactic(auto, unfolding(crate::specs::internal::Queries::keeps_of_address))]
     pub fn keeps_of_address(&self, reference: &Reference) -> Keeps
         ensures { result ≡ keeps_of_address self.now reference.now }
     {
@@ -148,7 +148,7 @@ impl<'a> Site<'a> {
 
     /// Whether the second of two operands may be evaluated first without a difference: the first is known, or it
     /// changes nothing and the second stores nothing.
-    #[tactic(auto, unfolding(crate::specs::Queries::may_exchange))]
+    #[tactic(auto, unfolding(crate::specs::internal::Queries::may_exchange))]
     pub fn may_exchange(&self, left: ExpressionNumber, right: ExpressionNumber) -> bool
         ensures { result ≡ may_exchange self.now left right }
     {
@@ -181,7 +181,7 @@ impl<'a> Site<'a> {
     }
 
     // Splits a computed subscript into its computed and its known part.
-    #[tactic(auto, unfolding(crate::specs::Queries::split_computed))]
+    #[tactic(auto, unfolding(crate::specs::internal::Queries::split_computed))]
     fn split_computed(&self, subscript: Subscript) -> Split
         ensures { result ≡ split_computed self.now subscript }
     {
@@ -213,7 +213,7 @@ impl<'a> Site<'a> {
 
     // Splits a subscript, if there is one. Known are a number, and a number that is added to an ADDRESS or subtracted
     // from it.
-    #[tactic(auto, unfolding(crate::specs::Queries::split))]
+    #[tactic(auto, unfolding(crate::specs::internal::Queries::split))]
     fn split(&self, subscript: Option<Subscript>) -> Split
         ensures { result ≡ split self.now subscript }
     {
@@ -233,7 +233,7 @@ impl<'a> Site<'a> {
     }
 
     /// The parts of the address of an object or a part of it.
-    #[tactic(auto, unfolding(crate::specs::Queries::located))]
+    #[tactic(auto, unfolding(crate::specs::internal::Queries::located))]
     pub fn located(&self, reference: &Reference) -> Located
         ensures { result ≡ located self.now reference.now }
     {
@@ -258,7 +258,7 @@ impl<'a> Site<'a> {
     }
 
     /// The location of an object or a part of it, if its address needs no base and no computed subscript.
-    #[tactic(auto, unfolding(crate::specs::Queries::location_of))]
+    #[tactic(auto, unfolding(crate::specs::internal::Queries::location_of))]
     pub fn location_of(&self, reference: &Reference) -> Option<Location>
         ensures { result ≡ location_of self.now reference.now }
     {
@@ -274,7 +274,7 @@ impl<'a> Site<'a> {
     }
 
     /// The place in memory of an object or a part of it, if that place is known.
-    #[tactic(auto, unfolding(crate::specs::Queries::direct))]
+    #[tactic(auto, unfolding(crate::specs::internal::Queries::direct))]
     pub fn direct(&self, reference: &Reference) -> Option<Place>
         ensures { result ≡ direct self.now reference.now }
     {
@@ -285,7 +285,7 @@ impl<'a> Site<'a> {
     }
 
     // The part of memory that holds HIGH of an expression, if any.
-    #[tactic(auto, unfolding(crate::specs::Queries::high_in_memory))]
+    #[tactic(auto, unfolding(crate::specs::internal::Queries::high_in_memory))]
     fn high_in_memory(&self, operand: ExpressionNumber) -> Option<Reference>
         ensures { result ≡ high_in_memory self.now operand }
     {
@@ -303,7 +303,7 @@ impl<'a> Site<'a> {
     }
 
     // The part of memory that holds the low byte of an expression that is not LOW, DOUBLE or a conversion, if any.
-    #[tactic(auto, unfolding(crate::specs::Queries::plain_in_memory))]
+    #[tactic(auto, unfolding(crate::specs::internal::Queries::plain_in_memory))]
     fn plain_in_memory(&self, number: ExpressionNumber) -> Option<Reference>
         ensures { result ≡ plain_in_memory self.now number }
     {
@@ -330,7 +330,7 @@ impl<'a> Site<'a> {
 
     /// The part of memory that holds the low byte of an expression, if the expression is a reference, or LOW, HIGH,
     /// DOUBLE or a conversion of one.
-    #[tactic(auto, unfolding(crate::specs::Queries::memory))]
+    #[tactic(auto, unfolding(crate::specs::internal::Queries::memory))]
     pub fn memory(&self, number: ExpressionNumber) -> Option<Reference>
         ensures { result ≡ memory self.now number }
     {
@@ -339,7 +339,7 @@ impl<'a> Site<'a> {
     }
 
     // The location of the low byte of an expression in memory, if its address needs no base and no computed subscript.
-    #[tactic(auto, unfolding(crate::specs::Queries::location_of_byte))]
+    #[tactic(auto, unfolding(crate::specs::internal::Queries::location_of_byte))]
     fn location_of_byte(&self, number: ExpressionNumber) -> Option<Location>
         ensures { result ≡ location_of_byte self.now number }
     {
@@ -350,7 +350,7 @@ impl<'a> Site<'a> {
     }
 
     /// Whether HL is known to hold the address of the low byte of an expression.
-    #[tactic(auto, unfolding(crate::specs::Queries::is_at_hl))]
+    #[tactic(auto, unfolding(crate::specs::internal::Queries::is_at_hl))]
     pub fn is_at_hl(&self, number: ExpressionNumber) -> bool
         ensures { result ≡ is_at_hl self.now number }
     {

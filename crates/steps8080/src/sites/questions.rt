@@ -1,7 +1,7 @@
 //! The questions that relations ask.
 
 ghost use Rattle.std.specs.Prelude.{◌≡◌};
-ghost use Rattle.steps8080.specs.Questions.{greatest, mirrored, number_question, question_of, relation_between, relation_of, relation_with_number};
+ghost use Rattle.steps8080.specs.internal.Questions.{greatest, mirrored, number_question, question_of, relation_between, relation_of, relation_with_number};
 
 use crate::sites::site::Site;
 use treecode::{ExpressionForm, ExpressionNumber};
@@ -131,7 +131,7 @@ fn relation_with_number(
 }
 
 // The relation of two operands. It holds if the answer is `holds_if`.
-#[tactic(auto, unfolding(crate::specs::Questions::relation_between))]
+#[tactic(auto, unfolding(crate::specs::internal::Questions::relation_between))]
 fn relation_between(site: &Site<'_>, comparison: &Comparison, holds_if: bool) -> Relation
     ensures { result ≡ relation_between site.now comparison.now holds_if }
 {
@@ -150,7 +150,7 @@ fn relation_between(site: &Site<'_>, comparison: &Comparison, holds_if: bool) ->
 }
 
 /// The relation that an expression stands for, if any.
-#[tactic(auto, unfolding(crate::specs::Questions::relation_of))]
+#[tactic(auto, unfolding(crate::specs::internal::Questions::relation_of))]
 pub fn relation_of(site: &Site<'_>, number: ExpressionNumber) -> Option<Relation>
     ensures { result ≡ relation_of site.now number }
 {

@@ -1,7 +1,7 @@
 //! Sites of code.
 
 ghost use Rattle.std.specs.Prelude.{◌≡◌};
-ghost use Rattle.steps8080.specs.Site.{distance, expression, scalar};
+ghost use Rattle.steps8080.specs.internal.Site.{distance, expression, scalar};
 
 use crate::Facts;
 use frames::FramePlan;
@@ -18,7 +18,7 @@ pub struct Site<'a> {
 
 impl<'a> Site<'a> {
     /// The expression with this number, if any.
-    #[tactic(auto, unfolding(crate::specs::Site::expression))]
+    #[tactic(auto, unfolding(crate::specs::internal::Site::expression))]
     pub fn expression(&self, number: ExpressionNumber) -> Option<Expression>
         ensures { result ≡ expression self.now number }
     {
@@ -34,7 +34,7 @@ impl<'a> Site<'a> {
 
     /// The distance from the stack pointer up to a byte of a variable or parameter in the frame, when `pushed` bytes
     /// are pushed.
-    #[tactic(auto, unfolding(crate::specs::Site::distance))]
+    #[tactic(auto, unfolding(crate::specs::internal::Site::distance))]
     pub fn distance(&self, variable: u16, offset: u16, pushed: u16) -> u16
         ensures { result ≡ distance self.now variable offset pushed }
     {

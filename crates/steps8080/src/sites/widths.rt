@@ -1,7 +1,7 @@
 //! Values that fit a byte, and values that are in a register already.
 
 ghost use Rattle.std.specs.Prelude.{◌≡◌};
-ghost use Rattle.steps8080.specs.Widths.{direct_word, fits_byte, form_fits_byte, high_byte_in_memory, is_byte_in_register, is_number_below, is_word_in_hl, low_number, operand_in_memory, power, power_of_two, result_fits_byte, shift_fits_byte, unknown, word_in_memory};
+ghost use Rattle.steps8080.specs.internal.Widths.{direct_word, fits_byte, form_fits_byte, high_byte_in_memory, is_byte_in_register, is_number_below, is_word_in_hl, low_number, operand_in_memory, power, power_of_two, result_fits_byte, shift_fits_byte, unknown, word_in_memory};
 
 use crate::sites::queries::reference_after;
 use crate::sites::site::Site;
@@ -11,7 +11,7 @@ use trees::{BinaryOperator, ScalarType};
 use typed_trees::{ShiftFunction, UnaryFunction};
 
 /// The exponent of a power of 2, if the number is one.
-#[tactic(auto, unfolding(crate::specs::Widths::power_of_two))]
+#[tactic(auto, unfolding(crate::specs::internal::Widths::power_of_two))]
 pub fn power_of_two(number: u16) -> Option<u16>
     ensures { result ≡ power_of_two number }
 {
@@ -25,7 +25,7 @@ pub fn power_of_two(number: u16) -> Option<u16>
 
 impl<'a> Site<'a> {
     // Whether a value is known to be a number below `bound`.
-    #[tactic(auto, unfolding(crate::specs::Widths::is_number_below))]
+    #[tactic(auto, unfolding(crate::specs::internal::Widths::is_number_below))]
     fn is_number_below(&self, number: ExpressionNumber, bound: u16) -> bool
         ensures { result ≡ is_number_below self.now number bound }
     {
@@ -36,7 +36,7 @@ impl<'a> Site<'a> {
     }
 
     // Whether one operand shows that an operator on ADDRESS operands gives a value below 256.
-    #[tactic(auto, unfolding(crate::specs::Widths::result_fits_byte))]
+    #[tactic(auto, unfolding(crate::specs::internal::Widths::result_fits_byte))]
     fn result_fits_byte(
         &self,
         operator: BinaryOperator,
@@ -55,7 +55,7 @@ impl<'a> Site<'a> {
     }
 
     // Whether its count shows that a shift of an ADDRESS gives a value below 256.
-    #[tactic(auto, unfolding(crate::specs::Widths::shift_fits_byte))]
+    #[tactic(auto, unfolding(crate::specs::internal::Widths::shift_fits_byte))]
     fn shift_fits_byte(&self, function: ShiftFunction, count: ExpressionNumber) -> bool
         ensures { result ≡ shift_fits_byte self.now function count }
     {
@@ -66,7 +66,7 @@ impl<'a> Site<'a> {
     }
 
     // Whether its form shows that an ADDRESS expression has a value below 256.
-    #[tactic(auto, unfolding(crate::specs::Widths::form_fits_byte))]
+    #[tactic(auto, unfolding(crate::specs::internal::Widths::form_fits_byte))]
     fn form_fits_byte(&self, form: &ExpressionForm) -> bool
         ensures { result ≡ form_fits_byte self.now form.now }
     {
@@ -92,7 +92,7 @@ impl<'a> Site<'a> {
     }
 
     /// Whether its form shows that an expression has a value below 256, so that its low byte is the whole value.
-    #[tactic(auto, unfolding(crate::specs::Widths::fits_byte))]
+    #[tactic(auto, unfolding(crate::specs::internal::Widths::fits_byte))]
     pub fn fits_byte(&self, number: ExpressionNumber) -> bool
         ensures { result ≡ fits_byte self.now number }
     {
@@ -108,7 +108,7 @@ impl<'a> Site<'a> {
     }
 
     /// The part of memory that holds the value of an ADDRESS expression, if it is a reference.
-    #[tactic(auto, unfolding(crate::specs::Widths::word_in_memory))]
+    #[tactic(auto, unfolding(crate::specs::internal::Widths::word_in_memory))]
     pub fn word_in_memory(&self, number: ExpressionNumber) -> Option<Reference>
         ensures { result ≡ word_in_memory self.now number }
     {
@@ -124,7 +124,7 @@ impl<'a> Site<'a> {
     }
 
     /// The part of memory that holds the high byte of an ADDRESS expression, if it is a reference.
-    #[tactic(auto, unfolding(crate::specs::Widths::high_byte_in_memory))]
+    #[tactic(auto, unfolding(crate::specs::internal::Widths::high_byte_in_memory))]
     pub fn high_byte_in_memory(&self, number: ExpressionNumber) -> Option<Reference>
         ensures { result ≡ high_byte_in_memory self.now number }
     {
@@ -135,7 +135,7 @@ impl<'a> Site<'a> {
     }
 
     /// The place in memory of the word that an expression refers to, if that place is known.
-    #[tactic(auto, unfolding(crate::specs::Widths::direct_word))]
+    #[tactic(auto, unfolding(crate::specs::internal::Widths::direct_word))]
     pub fn direct_word(&self, number: ExpressionNumber) -> Option<Place>
         ensures { result ≡ direct_word self.now number }
     {
@@ -146,7 +146,7 @@ impl<'a> Site<'a> {
     }
 
     /// The part of memory that holds the low byte of an expression, if the code for its address keeps A.
-    #[tactic(auto, unfolding(crate::specs::Widths::operand_in_memory))]
+    #[tactic(auto, unfolding(crate::specs::internal::Widths::operand_in_memory))]
     pub fn operand_in_memory(&self, number: ExpressionNumber) -> Option<Reference>
         ensures { result ≡ operand_in_memory self.now number }
     {
@@ -163,7 +163,7 @@ impl<'a> Site<'a> {
     }
 
     /// Whether HL holds the word that an expression refers to.
-    #[tactic(auto, unfolding(crate::specs::Widths::is_word_in_hl))]
+    #[tactic(auto, unfolding(crate::specs::internal::Widths::is_word_in_hl))]
     pub fn is_word_in_hl(&self, number: ExpressionNumber) -> bool
         ensures { result ≡ is_word_in_hl self.now number }
     {
@@ -177,7 +177,7 @@ impl<'a> Site<'a> {
     }
 
     /// Whether A, H or L holds the low byte of an expression.
-    #[tactic(auto, unfolding(crate::specs::Widths::is_byte_in_register))]
+    #[tactic(auto, unfolding(crate::specs::internal::Widths::is_byte_in_register))]
     pub fn is_byte_in_register(&self, number: ExpressionNumber) -> bool
         ensures { result ≡ is_byte_in_register self.now number }
     {
@@ -191,7 +191,7 @@ impl<'a> Site<'a> {
     }
 
     /// The low byte of the value of an expression, if that is known as a number.
-    #[tactic(auto, unfolding(crate::specs::Widths::low_number))]
+    #[tactic(auto, unfolding(crate::specs::internal::Widths::low_number))]
     pub fn low_number(&self, number: ExpressionNumber) -> Option<u8>
         ensures { result ≡ low_number self.now number }
     {
@@ -202,7 +202,7 @@ impl<'a> Site<'a> {
     }
 
     /// The exponent, if the value of an expression is known as a power of 2.
-    #[tactic(auto, unfolding(crate::specs::Widths::power))]
+    #[tactic(auto, unfolding(crate::specs::internal::Widths::power))]
     pub fn power(&self, number: ExpressionNumber) -> Option<u16>
         ensures { result ≡ power self.now number }
     {

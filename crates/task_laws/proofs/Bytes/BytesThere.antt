@@ -3,7 +3,7 @@ use Rattle.task_laws.proofs.Prelude.{◌≡◌, ℕ, ◌*◌, ◌/◌, ◌%◌, 
 use Rattle.treecode.specs.declared.expression.ExpressionForm.TheVariants as forms
 use Rattle.treecode.specs.declared.place.Home.TheVariants as homes
 use Rattle.treecode.specs.declared.place.Location.TheVariants as locations
-use Rattle.steps8080.specs.Queries.{location_at, located}
+use Rattle.steps8080.specs.internal.Queries.{location_at, located}
 use Rattle.task_laws.proofs.Branches.Branches.{given_itself}
 use Rattle.task_laws.proofs.Bytes.ByteCode.{ByteCarried}
 use Rattle.task_laws.proofs.Bytes.ByteForms.{byte_given, free_by_form, type_byte}
@@ -358,9 +358,9 @@ static_there context facts reference is =
               (located_at (base (home_at (nodes_in context).homes reference.object)) first second).base
         ] ≡ Some (locations.Static at))
     by place begins first first_none second second_none = (
-      Rattle.treecode.specs.Homes.place_after
-          (Rattle.treecode.specs.Homes.place_after
-          (Rattle.treecode.specs.Homes.place_after place reference.offset) one) two,
+      Rattle.treecode.specs.internal.Homes.place_after
+          (Rattle.treecode.specs.internal.Homes.place_after
+          (Rattle.treecode.specs.internal.Homes.place_after place reference.offset) one) two,
       ap (λ (found : Option IndexNode). elim (located_at
           (base (home_at (nodes_in context).homes reference.object)) found second).first [
             | Some subscript ↦ None

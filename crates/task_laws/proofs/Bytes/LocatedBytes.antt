@@ -2,7 +2,7 @@
 use Rattle.task_laws.proofs.Prelude.{◌≡◌, ℕ, ◌*◌, ◌/◌, ◌%◌, ◌<◌, ◌≤◌, ◌⊎◌, inl, inr, List, Option, Some, refl, sym, ap, subst, ◌∙◌, arith, option_and_then, option_map_or, byte_at, ScalarType, Byte, Address, Low, High, Double, height_of, height_of_reference, type_of, ConversionNode, FunctionNode, PartOf, TypedExpression, TypedReference, ValueNode, RefersToScalar, TypesHold, TypesHoldInReference, next_place, place_in, read_scalar, SourceState, Outcome, Gave, Stop, Stopped, then_do, as_type, values_of, Registers, State, Expression, ExpressionForm, ExpressionNumber, Reference, IsBinary, IsCallOf, IsConstantList, IsConversion, IsEmbedded, IsExpression, IsForm, IsFunction, IsInput, IsLocation, IsNumber, IsReference, IsShift, IsUnary, IsValue, Does, Loaded, loaded_of, at_place, Arrives, IsReady, does_without_step, IsSteady, Facts, GoesOutside, memory, reference_after, knowing, Context, IsSound, nodes_in, AddressIsGiven, IsReferred, address_on_machine, as_type_fits, high_is_byte, same_Some, same_both, value_is_word}
 use Rattle.meaning.specs.Access.{Place}
 use Rattle.treecode.specs.declared.expression.ExpressionForm.TheVariants as forms
-use Rattle.treecode.specs.Traits as traits
+use Rattle.treecode.specs.internal.Traits as traits
 use Rattle.task_laws.proofs.Bytes.BytesAsked.{ByteIsAtHl, LocatesBytes}
 use Rattle.task_laws.proofs.Loads.BytesInMemory.{memory_same}
 use Rattle.task_laws.proofs.Bytes.ByteForms.{type_byte}

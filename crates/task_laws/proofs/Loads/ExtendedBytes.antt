@@ -3,7 +3,7 @@ use Rattle.task_laws.proofs.Prelude.{◌≡◌, ℕ, ◌+◌, ◌*◌, ◌%◌, 
 use Rattle.isa8080.specs.declared.instr.Register.TheVariants as registers
 use Rattle.treecode.specs.declared.expression.ExpressionForm.TheVariants as forms
 use Rattle.treecode.specs.declared.place.Location.TheVariants as locations
-use Rattle.treecode.specs.Traits.{keeps_of_address}
+use Rattle.treecode.specs.internal.Traits.{keeps_of_address}
 use Rattle.steps8080.specs.declared.step.Task.TheVariants as tasks
 use Rattle.task_laws.proofs.Machine.Addresses.{location_address_goes, nothing_goes, registers_end}
 use Rattle.task_laws.proofs.Places.Fitting.{gave_first}

@@ -19,7 +19,7 @@ one_goes :
     {tree : TypedExpression}
     (go : ℕ → ℕ) (top need : ℕ) (base : List ℕ) (s : SourceState) (r : Registers) (memory : List ℕ)
     → StepsStand context (PartDoes context) facts from
-    (Rattle.steps8080.specs.Step.part (Rattle.steps8080.specs.declared.step.Task.TheVariants.Effects number)
+    (Rattle.steps8080.specs.internal.Step.part (Rattle.steps8080.specs.declared.step.Task.TheVariants.Effects number)
     pushed ∷ []) last to
     → IsExpression (nodes_in context) context.storage bound number.index tree
     → TypesHold context.typed context.within tree
@@ -244,7 +244,7 @@ one_free :
     (go : ℕ → ℕ) (top need : ℕ) (base : List ℕ) (s : SourceState) (r : Registers) (memory : List ℕ)
     → free_at (nodes_in context) number ≡ true
     → StepsStand context (PartDoes context) facts from
-    (Rattle.steps8080.specs.Step.part (Rattle.steps8080.specs.declared.step.Task.TheVariants.Effects number)
+    (Rattle.steps8080.specs.internal.Step.part (Rattle.steps8080.specs.declared.step.Task.TheVariants.Effects number)
     pushed ∷ []) last to
     → IsExpression (nodes_in context) context.storage bound number.index tree
     → TypesHold context.typed context.within tree

@@ -3,7 +3,7 @@ use Rattle.task_laws.proofs.Prelude.{◌≡◌, ℕ, zero, suc, ◌%◌, ◌<◌
 use Rattle.trees.specs.declared.expression.BinaryOperator.TheVariants.{Or, And, Equal, Add, Subtract}
 use Rattle.treecode.specs.declared.expression.ExpressionForm.TheVariants as forms
 use Rattle.treecode.specs.declared.place.Home.TheVariants as homes
-use Rattle.treecode.specs.Traits.{keeps_of_address}
+use Rattle.treecode.specs.internal.Traits.{keeps_of_address}
 
 -- both subscripts of a known place are known
 pub place_known :
@@ -11,7 +11,7 @@ pub place_known :
     → is_some (place_of_part home offset first second) ≡ true
     → (is_some first ≡ true) × (is_some second ≡ true)
 place_known (homes.Static place) offset (Some first) second some =
-    (refl, from_number (λ two. Rattle.treecode.specs.Homes.place_after (Rattle.treecode.specs.Homes.place_after (Rattle.treecode.specs.Homes.place_after place offset) first) two) second some)
+    (refl, from_number (λ two. Rattle.treecode.specs.internal.Homes.place_after (Rattle.treecode.specs.internal.Homes.place_after (Rattle.treecode.specs.internal.Homes.place_after place offset) first) two) second some)
 place_known (homes.Static place) offset None second some = absurd (false≢true some)
 place_known (homes.Based base) offset first second some = absurd (false≢true some)
 place_known (homes.Frame variable) offset first second some = absurd (false≢true some)

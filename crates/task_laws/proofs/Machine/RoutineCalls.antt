@@ -2,7 +2,7 @@
 use Rattle.task_laws.proofs.Prelude.{◌≡◌, ℕ, ◌+◌, ◌-◌, ◌<◌, ◌≤◌, inl, inr, List, [], ◌∷◌, refl, sym, ap, ◌∙◌, arith, subst, MEMORY_SIZE, byte_at, IsIn, Event, SourceState, Outcome, Call, Running, bytes_of, HoldBytes, Registers, State, wrap, CallTo, InstructionStands, below, Does, loaded_of, Lands, at_place, Activation, HasRoom, IsReady, LiesWell, MayChange, Owns, told_on, keeps_both, keeps_wider, stands_now, no_facts_hold, bytes_alike, stands_in, Facts, Part, Step, CallRoutine, no_facts, jump_item, label_of_routine, Context, IsSound, RoutineIsAt, StepsStand, RoutineThere, wrapped_once, wrapped_small}
 use Rattle.mem80.specs.declared.range.Range.{Range}
 use Rattle.asm8080.specs.Standing.{Keeps}
-use Rattle.runtime8080.specs.{declared.routine.Routine.{Routine}, Routines.{BlocksMiss, Computes, CopyMisses, HasReturned, Leaves, Returns, memory_after}}
+use Rattle.runtime8080.specs.{declared.routine.Routine.{Routine}, internal.Routines.{BlocksMiss, Computes, CopyMisses, HasReturned, Leaves, Returns, memory_after}}
 use Rattle.runtime8080.specs.declared.routine.Routine.TheVariants as routines
 use Rattle.task_laws.proofs.Machine.Rules.{GoesOn, bytes_at_place}
 

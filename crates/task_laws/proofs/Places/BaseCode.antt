@@ -110,8 +110,8 @@ base_goes {Good = Good} {context = context} {PartIs = PartIs} {last = last} {to 
     let low : ℕ = byte_at memory (address_on_machine context.activation place) in
     let high : ℕ = byte_at memory (wrap (address_on_machine context.activation place + 1)) in
     location_word_goes used pointer r sound room
-    (subst (λ (n : ℕ). Rattle.code_meaning.specs.Holding.IsSteady context.activation n) pointer_is steady)
-    (subst (λ (n : ℕ). Rattle.code_meaning.specs.Holding.IsSteady context.activation (wrap (n + 1)))
+    (subst (λ (n : ℕ). Rattle.code_meaning.specs.internal.Holding.IsSteady context.activation n) pointer_is steady)
+    (subst (λ (n : ℕ). Rattle.code_meaning.specs.internal.Holding.IsSteady context.activation (wrap (n + 1)))
     pointer_is next)
     known_here parts.first on
     (λ there word_there on_there.
@@ -225,8 +225,8 @@ base_added_goes {Good = Good} {context = context} {PartIs = PartIs} {last = last
     let parts = steps_split (location_word_steps (knowing context.site no_facts) pointer pushed)
     (Plain (Dad De) ∷ addition_steps (Number offset)) stand in
     location_word_goes no_facts pointer one sound room
-    (subst (λ (n : ℕ). Rattle.code_meaning.specs.Holding.IsSteady context.activation n) pointer_is steady)
-    (subst (λ (n : ℕ). Rattle.code_meaning.specs.Holding.IsSteady context.activation (wrap (n + 1)))
+    (subst (λ (n : ℕ). Rattle.code_meaning.specs.internal.Holding.IsSteady context.activation n) pointer_is steady)
+    (subst (λ (n : ℕ). Rattle.code_meaning.specs.internal.Holding.IsSteady context.activation (wrap (n + 1)))
     pointer_is next)
     no_facts_hold parts.first on_one
     (λ there word_there on_there.

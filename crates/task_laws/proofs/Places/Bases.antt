@@ -2,7 +2,7 @@
 use Rattle.task_laws.proofs.Prelude.{◌≡◌, ℕ, ◌+◌, ◌*◌, ◌%◌, ◌<◌, Bool, true, List, [], Option, Some, None, slice_get, refl, sym, ap, subst, ◌∙◌, arith, IsSomeAnd, option_map_or, ScalarType, Address, IsScalar, count_of, size_of_element, size_of_object, TypedHome, InData, InConstants, Placed, BasedOn, Elsewhere, Nowhere, InFrame, ObjectType, TypedObject, TypedModule, IsSeen, LiesFor, Within, WithinMain, WithinProcedure, SourcePlace, InMemory, InTheFrame, Surroundings, home_in, home_of, place_in, place_of, read_scalar, based_place, SourceState, Outcome, Gave, Stopped, then_do, wrap, Home, Place, Location, frame_number, homes_of, place_after, home_at, home, location_at, place_at, location_after_is, Base, base_after, base_of, Context, IsSound, distances_in, address_on_machine}
 use Rattle.treecode.specs.declared.place.Home.TheVariants as homes
 use Rattle.treecode.specs.declared.place.Location.TheVariants as locations
-use Rattle.treecode.specs.Homes.{location_of}
+use Rattle.treecode.specs.internal.Homes.{location_of}
 use Rattle.steps8080.specs.declared.sites.queries.Base.TheVariants as bases
 use Rattle.task_laws.proofs.Places.Homes.{Begins, BeginsAtBase, BeginsInFrame, BeginsInMemory, begins}
 use Rattle.task_laws.proofs.Places.Reading.{FitsIn}

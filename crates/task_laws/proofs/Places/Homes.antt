@@ -1,7 +1,7 @@
 -- The homes of objects in tree code: those that are BASED, those in the frame, and all others in memory.
 use Rattle.task_laws.proofs.Prelude.{◌≡◌, ℕ, zero, suc, ◌+◌, ◌<◌, List, [], ◌∷◌, ◌++◌, length, slice_get, get_or, Some, refl, ap, sym, ◌∙◌, arith, get_or_append_left, get_or_push, length_push, none-some, same_Some, AtNumber, AtObject, TypedHome, InData, InConstants, Placed, BasedOn, Elsewhere, Nowhere, InFrame, TypedObject, TypedModule, Storage, Home, Place, Number, frame_number, home_after, home_of_object, homes_from, homes_of, home_at, earlier_kept}
 use Rattle.treecode.specs.declared.place.Home.TheVariants as homes
-use Rattle.treecode.specs.Homes.{location_of}
+use Rattle.treecode.specs.internal.Homes.{location_of}
 
 -- where the object after those before begins
 abbrev next_home : TypedModule → Storage → (before : List Home) → TypedObject → Home
@@ -66,7 +66,7 @@ pub data Begins (typed : TypedModule) (storage : Storage) (number : ℕ) : Typed
 
 after_is_static : (home : Home) (distance : ℕ)
     → (place : Place) × (home_after home distance ≡ homes.Static place)
-after_is_static (homes.Static place) distance = (Rattle.treecode.specs.Homes.place_after place distance, refl)
+after_is_static (homes.Static place) distance = (Rattle.treecode.specs.internal.Homes.place_after place distance, refl)
 after_is_static (homes.Based base) distance = (Number distance, refl)
 after_is_static (homes.Frame variable) distance = (Number distance, refl)
 

@@ -1,7 +1,7 @@
 -- The code of the address of an object or a part of it puts the address of its place into HL.
 use Rattle.task_laws.proofs.Prelude.{◌≡◌, ℕ, ◌+◌, ◌*◌, ◌%◌, ◌<◌, ◌≤◌, Bool, true, false, not, ◌&&◌, ◌||◌, List, ◌++◌, Option, Some, None, is_some, max, refl, sym, ap, subst, ◌∙◌, arith, IsSomeAnd, slice_get, height_of, height_of_reference, height_of_subscript, PartOf, Subscript, TypedObject, TypedReference, IsSeen, SourcePlace, home_of, Displacement, based_place, displacement, value, SourceState, Outcome, Gave, Stopped, then_do, Registers, word, wrap, Home, Reference, IndexNode, Keeps, IsPart, home_at, home, is_static_location, keeps_of_part, keeps_of_subscript, keeps_of_sum, Does, loaded_of, at_place, Arrives, HasRoom, does_without_step, Facts, Base, base_after, base_of, keeps_of_address, located_at, address_steps, base_added_steps, located_steps, second_steps, product_steps, knowing, Context, IsSound, nodes_in, StepsStand, AddressDoes, AddressIsGiven, PartDoes, false≢true, and_parts}
 use Rattle.treecode.specs.declared.place.Home.TheVariants as homes
-use Rattle.steps8080.specs.Queries.{located}
+use Rattle.steps8080.specs.internal.Queries.{located}
 use Rattle.task_laws.proofs.Machine.Rules.{GoesOn, steps_split as split_steps}
 use Rattle.task_laws.proofs.Places.Products.{ProductsDo, product_then}
 use Rattle.task_laws.proofs.Places.Subscripts.{IsSplit, AllKnown, IsComputed, is_split}

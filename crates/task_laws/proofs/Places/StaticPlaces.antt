@@ -1,7 +1,7 @@
 -- If the place of a part of an object is known from its node, its location is known at the site.
 use Rattle.task_laws.proofs.Prelude.{◌≡◌, ℕ, ◌*◌, ◌%◌, true, Option, Some, None, is_some, refl, ap, ◌∙◌, false≢true, Home, Location, Static, Place, Reference, IndexNode, known_distance, place_of_part, home_at, distance_of, number_at, place_of_reference, Facts, Base, Split, base_after, base_of, located_at, location_of, number_of, split, split_computed, knowing, Context, nodes_in}
 use Rattle.treecode.specs.declared.place.Home.TheVariants as homes
-use Rattle.steps8080.specs.Queries.{located, location_at}
+use Rattle.steps8080.specs.internal.Queries.{located, location_at}
 use Rattle.task_laws.proofs.Machine.KeptCode.{place_known}
 use Rattle.task_laws.proofs.Machine.SiteNodes.{number_is}
 

@@ -4,7 +4,7 @@ use Rattle.task_laws.proofs.Prelude.{◌≡◌, ℕ, ◌+◌, ◌-◌, ◌*◌, 
 use Rattle.trees.specs.declared.expression.BinaryOperator.TheVariants as operators
 use Rattle.meaning.specs.Outcomes.{State}
 use Rattle.treecode.specs.declared.expression.ExpressionForm.TheVariants as forms
-use Rattle.treecode.specs.Traits.{keeps_both}
+use Rattle.treecode.specs.internal.Traits.{keeps_both}
 use Rattle.task_laws.proofs.Machine.Nodes.{NodeOf, node_of}
 use Rattle.task_laws.proofs.Machine.KnownOperands.{number_small}
 use Rattle.task_laws.proofs.Machine.SiteNodes.{number_means, place_of_number}
@@ -193,7 +193,7 @@ whole_is context facts index stride count bound tree stride_is is types address 
     address (omega arith)
     (λ s. refl)
     (λ n. index_bytes stride n ∙ ap (λ (stride : ℕ). wrap (n * stride + 0)) (sym stride_is))
-    (ap (λ (found : Option ℕ). Rattle.treecode.specs.Traits.keeps_of_index
+    (ap (λ (found : Option ℕ). Rattle.treecode.specs.internal.Traits.keeps_of_index
     (nodes_in context) index.index found)
     (sym (number_same context facts index.index) ∙ unknown))
     (record {
@@ -323,8 +323,8 @@ sum_split :
     → TypesHold context.typed context.within first
     → type_of first ≡ Address
     → TypesHold context.typed context.within second
-    → Rattle.steps8080.specs.Queries.number (knowing context.site facts) number ≡ None
-    → Rattle.steps8080.specs.Queries.number (knowing context.site facts) right ≡ Some k
+    → Rattle.steps8080.specs.internal.Queries.number (knowing context.site facts) number ≡ None
+    → Rattle.steps8080.specs.internal.Queries.number (knowing context.site facts) right ≡ Some k
     → IsSplit context (Some (record { index = number; stride = stride % 65536 }))
     (At stride count (BinaryNode Address operators.Add first second))
     (Some (record { index = left; stride = stride % 65536 })) ((k * (stride % 65536)) % 65536)
@@ -361,8 +361,8 @@ difference_split :
     → type_of first ≡ Address
     → TypesHold context.typed context.within second
     → type_of second ≡ Address
-    → Rattle.steps8080.specs.Queries.number (knowing context.site facts) number ≡ None
-    → Rattle.steps8080.specs.Queries.number (knowing context.site facts) right ≡ Some k
+    → Rattle.steps8080.specs.internal.Queries.number (knowing context.site facts) number ≡ None
+    → Rattle.steps8080.specs.internal.Queries.number (knowing context.site facts) right ≡ Some k
     → IsSplit context (Some (record { index = number; stride = stride % 65536 }))
     (At stride count (BinaryNode Address operators.Subtract first second))
     (Some (record { index = left; stride = stride % 65536 }))
@@ -438,7 +438,7 @@ computed_split :
     → IsExpression (nodes_in context) context.storage bound of.index tree
     → TypesHold context.typed context.within tree
     → type_of tree ≡ Address
-    → Rattle.steps8080.specs.Queries.number (knowing context.site facts) of ≡ None
+    → Rattle.steps8080.specs.internal.Queries.number (knowing context.site facts) of ≡ None
     → (form : ExpressionForm)
     → node.found.form ≡ form
     → IsForm (nodes_in context) context.storage of.index form tree
@@ -448,10 +448,10 @@ computed_split :
 computed_split context facts of stride count bound tree sound node is types address unknown form form_is
     (IsBinary {operands = Address} {operator = operators.Add} {left = left} {right = right} {first = first}
     {second = second} one two) =
-    by_right (Rattle.steps8080.specs.Queries.number (knowing context.site facts) right) refl
+    by_right (Rattle.steps8080.specs.internal.Queries.number (knowing context.site facts) right) refl
   where
     by_right : (found : Option ℕ)
-        → Rattle.steps8080.specs.Queries.number (knowing context.site facts) right ≡ found
+        → Rattle.steps8080.specs.internal.Queries.number (knowing context.site facts) right ≡ found
         → IsSplit context (Some (record { index = of; stride = stride % 65536 }))
         (At stride count (BinaryNode Address operators.Add first second))
         (unwrap_or (option_and_then (λ value. split_sum (record { index = of; stride = stride % 65536 })
@@ -469,10 +469,10 @@ computed_split context facts of stride count bound tree sound node is types addr
 computed_split context facts of stride count bound tree sound node is types address unknown form form_is
     (IsBinary {operands = Address} {operator = operators.Subtract} {left = left} {right = right}
     {first = first} {second = second} one two) =
-    by_right (Rattle.steps8080.specs.Queries.number (knowing context.site facts) right) refl
+    by_right (Rattle.steps8080.specs.internal.Queries.number (knowing context.site facts) right) refl
   where
     by_right : (found : Option ℕ)
-        → Rattle.steps8080.specs.Queries.number (knowing context.site facts) right ≡ found
+        → Rattle.steps8080.specs.internal.Queries.number (knowing context.site facts) right ≡ found
         → IsSplit context (Some (record { index = of; stride = stride % 65536 }))
         (At stride count (BinaryNode Address operators.Subtract first second))
         (unwrap_or (option_and_then (λ value. split_sum (record { index = of; stride = stride % 65536 })

@@ -59,7 +59,7 @@ words_come {C = C} {context = context} {top = top} {pushed = pushed} {need = nee
         (apart : Apart)
         → IsApart (knowing context.site facts) left right Equal apart
         → StepsStand context (PartDoes context) facts from
-        (Rattle.steps8080.specs.Step.part (Rattle.steps8080.specs.declared.step.Task.TheVariants.Word
+        (Rattle.steps8080.specs.internal.Step.part (Rattle.steps8080.specs.declared.step.Task.TheVariants.Word
         apart.other) pushed ∷ others) last to
         → GoesOnWords context (PlaceAndHl apart.place) top pushed need base others last to more go Good
         → Does (loaded_in context) t.budget more (at_place from r memory t.events)
@@ -106,7 +106,7 @@ words_come {C = C} {context = context} {top = top} {pushed = pushed} {need = nee
         → operand_apart (knowing context.site facts) (asking scalars.Address left right Equal) ≡ found
         → StepsStand context (PartDoes context) facts from
         (elim found [
-          | Some apart ↦ Rattle.steps8080.specs.Step.part
+          | Some apart ↦ Rattle.steps8080.specs.internal.Step.part
               (Rattle.steps8080.specs.declared.step.Task.TheVariants.Word apart.other) pushed ∷ []
           | None ↦ pair_steps (knowing context.site facts) left right false pushed
         ] ++ others) last to

@@ -259,7 +259,7 @@ byte_asked {C = C} {context = context} {top = top} {need = need} {base = base} {
         → StepsStand context (PartDoes context) facts from
         (elim found [
           | Some answer ↦ known_steps operand setting
-          | None ↦ Rattle.steps8080.specs.Step.part
+          | None ↦ Rattle.steps8080.specs.internal.Step.part
               (Rattle.steps8080.specs.declared.step.Task.TheVariants.Byte operand) setting.pushed
               ∷ number_in_a_steps question setting
         ]) last to

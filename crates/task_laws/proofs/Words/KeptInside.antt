@@ -1,7 +1,7 @@
 -- The registers that the code of a conversion or of DOUBLE keeps are kept by the code of its operand.
 use Rattle.task_laws.proofs.Prelude.{◌≡◌, true, Option, Some, None, refl, sym, subst, option_map_or, false≢true, Byte, Low, High, Double, ExpressionForm, Place, Reference, Keeps, Nodes, form_at, keeps_none, keeps_of, keeps_of_byte, keeps_of_form, memory_of_inner, same_low_byte}
 use Rattle.treecode.specs.declared.expression.ExpressionForm.TheVariants as forms
-use Rattle.treecode.specs.Traits.{keeps_of_address}
+use Rattle.treecode.specs.internal.Traits.{keeps_of_address}
 
 -- the registers that one keeps are kept by the other
 pub record IsKeptBy (less more : Keeps) : Type 0 where

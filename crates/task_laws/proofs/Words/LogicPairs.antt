@@ -130,7 +130,7 @@ either_does {context = context} {pushed = pushed} {top = top} {need = need} {to 
         (subst (λ (test : Bool). StepsStand context (PartDoes context) facts from
         (if test then Rattle.exprgen8080.specs.internal.ByteOperators.byte_operation_steps
         (knowing context.site facts) operation operands pushed
-        ++ Rattle.steps8080.specs.Step.extension_steps
+        ++ Rattle.steps8080.specs.internal.Step.extension_steps
         else elim (with_simple (knowing context.site facts) operands) [
           | Some chosen ↦ logic_with_simple_steps operation chosen.0 chosen.1 pushed
           | None ↦ paired_steps (knowing context.site facts) operands operation operation pushed

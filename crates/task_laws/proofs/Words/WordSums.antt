@@ -134,14 +134,14 @@ first_known {context = context} second facts place go s sound one here =
     (value context.later context.activation.around second t) (λ y u. go x y u)))
     (known_means facts place sound one.is one.types here s)
 
-keeps_right : (nodes : Rattle.treecode.specs.Nodes.Nodes) (left right : ExpressionNumber) (place : Place)
+keeps_right : (nodes : Rattle.treecode.specs.internal.Nodes.Nodes) (left right : ExpressionNumber) (place : Place)
     → known_at nodes right ≡ Some place
     → keeps_of_binary nodes operators.Add left right ≡ keeps_at nodes left
 keeps_right nodes left right place here =
     ap (λ found. if is_some found then keeps_at nodes left
     else if is_some (known_at nodes left) then keeps_at nodes right else keeps_none) here
 
-keeps_left : (nodes : Rattle.treecode.specs.Nodes.Nodes) (left right : ExpressionNumber) (place : Place)
+keeps_left : (nodes : Rattle.treecode.specs.internal.Nodes.Nodes) (left right : ExpressionNumber) (place : Place)
     → known_at nodes right ≡ None
     → known_at nodes left ≡ Some place
     → keeps_of_binary nodes operators.Add left right ≡ keeps_at nodes right
@@ -150,7 +150,7 @@ keeps_left nodes left right place none here =
     else if is_some (known_at nodes left) then keeps_at nodes right else keeps_none) none
     ∙ ap (λ found. if is_some found then keeps_at nodes right else keeps_none) here
 
-keeps_neither : (nodes : Rattle.treecode.specs.Nodes.Nodes) (left right : ExpressionNumber)
+keeps_neither : (nodes : Rattle.treecode.specs.internal.Nodes.Nodes) (left right : ExpressionNumber)
     → known_at nodes right ≡ None
     → known_at nodes left ≡ None
     → keeps_of_binary nodes operators.Add left right ≡ keeps_none

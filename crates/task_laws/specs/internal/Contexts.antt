@@ -18,18 +18,18 @@ use Rattle.isa8080.specs.State.{Registers}
 use Rattle.asm8080.specs.declared.item.Item.{Item}
 use Rattle.asm8080.specs.Items.{Layout, Stands}
 use Rattle.runtime8080.specs.declared.routine.Routine.{Routine}
-use Rattle.runtime8080.specs.Routines.{IsRoutine}
+use Rattle.runtime8080.specs.internal.Routines.{IsRoutine}
 use Rattle.treecode.specs.declared.place.Home.TheVariants.{Static}
 use Rattle.treecode.specs.declared.place.Place.{Place}
-use Rattle.treecode.specs.Homes.{frame_number}
-use Rattle.treecode.specs.Lowered.{IsLowered}
-pub use Rattle.treecode.specs.Nodes.{NumbersAreWords}
-use Rattle.treecode.specs.Nodes.{Nodes, home_at, nodes_of}
-use Rattle.treecode.specs.Resolved.{Resolves}
-use Rattle.frames.specs.Frames.{distance_of}
-use Rattle.code_meaning.specs.Activations.{Activation, Arrives, HasRoom, IsReady, IsThere, LiesWell, loaded_of}
+use Rattle.treecode.specs.internal.Homes.{frame_number}
+use Rattle.treecode.specs.internal.Lowered.{IsLowered}
+pub use Rattle.treecode.specs.internal.Nodes.{NumbersAreWords}
+use Rattle.treecode.specs.internal.Nodes.{Nodes, home_at, nodes_of}
+use Rattle.treecode.specs.internal.Resolved.{Resolves}
+use Rattle.frames.specs.internal.Frames.{distance_of}
+use Rattle.code_meaning.specs.internal.Activations.{Activation, Arrives, HasRoom, IsReady, IsThere, LiesWell, loaded_of}
 use Rattle.code_meaning.specs.Landing.{Does, at_place}
-use Rattle.code_meaning.specs.Holding.{Distances, place_at}
+use Rattle.code_meaning.specs.internal.Holding.{Distances, place_at}
 use Rattle.steps8080.specs.declared.sites.site.Site.{Site}
 use Rattle.exprgen8080.specs.internal.Emission.{call_items, has_routine, label_of_routine}
 pub use Rattle.task_laws.specs.CallingConvention.{ArgumentsLie, InRegister, InWord, ResultLies, bytes_pushed}

@@ -7,14 +7,14 @@ use Rattle.asm8080.specs.declared.item.WordForm.TheVariants.{CallTo}
 use Rattle.asm8080.specs.Standing.{size_of_instruction}
 use Rattle.runtime8080.specs.declared.routine.Routine.{Routine}
 use Rattle.treecode.specs.declared.place.Place.{Place}
-use Rattle.code_meaning.specs.Activations.{IsThere}
+use Rattle.code_meaning.specs.internal.Activations.{IsThere}
 use Rattle.steps8080.specs.declared.facts.Facts.{Facts}
 use Rattle.steps8080.specs.declared.step.LabelNumber.{LabelNumber}
 use Rattle.steps8080.specs.declared.step.Part.{Part}
 use Rattle.steps8080.specs.declared.step.Step.{Step}
 use Rattle.steps8080.specs.declared.step.Step.TheVariants as steps
-use Rattle.steps8080.specs.Facts.{after, after_form, after_word, no_facts, with_facts, without_memory}
-use Rattle.steps8080.specs.Writer.{jump_item, word_item}
+use Rattle.steps8080.specs.internal.Facts.{after, after_form, after_word, no_facts, with_facts, without_memory}
+use Rattle.steps8080.specs.internal.Writer.{jump_item, word_item}
 use Rattle.exprgen8080.specs.internal.Emission.{after_test, call_items, has_routine, label_of_routine, test_items}
 use Rattle.task_laws.specs.internal.Contexts.{Context}
 

@@ -15,17 +15,17 @@ use Rattle.treecode.specs.declared.expression.ExpressionNumber.{ExpressionNumber
 use Rattle.treecode.specs.declared.lists.Range.{Range}
 use Rattle.treecode.specs.declared.reference.Reference.{Reference}
 use Rattle.treecode.specs.declared.reference.Target.{Target}
-use Rattle.treecode.specs.Lowered.{AreArguments, IsExpression, IsReference, IsTarget}
-use Rattle.code_meaning.specs.Activations.{Activation, Arrives, HasRoom, IsReady, loaded_of}
+use Rattle.treecode.specs.internal.Lowered.{AreArguments, IsExpression, IsReference, IsTarget}
+use Rattle.code_meaning.specs.internal.Activations.{Activation, Arrives, HasRoom, IsReady, loaded_of}
 use Rattle.code_meaning.specs.Landing.{Does, at_place}
-use Rattle.code_meaning.specs.Holding.{FactsHold}
+use Rattle.code_meaning.specs.internal.Holding.{FactsHold}
 use Rattle.steps8080.specs.declared.facts.Facts.{Facts}
 use Rattle.steps8080.specs.declared.step.LabelNumber.{LabelNumber}
 use Rattle.steps8080.specs.declared.step.Part.{Part}
 use Rattle.steps8080.specs.declared.step.Task.{Task}
 use Rattle.steps8080.specs.declared.step.Task.TheVariants as tasks
-use Rattle.steps8080.specs.Queries.{is_free, keeps, keeps_of_address}
-use Rattle.task_laws.specs.Conditions.{jumps_once}
+use Rattle.steps8080.specs.internal.Queries.{is_free, keeps, keeps_of_address}
+use Rattle.task_laws.specs.internal.Conditions.{jumps_once}
 use Rattle.task_laws.specs.internal.Contexts.{Context, InRegister, ResultLies, distances_in, nodes_in}
 
 -- facts hold in the activation of a context

@@ -12,9 +12,9 @@ use Rattle.treecode.specs.declared.reference.Reference.{Reference}
 use Rattle.treecode.specs.declared.reference.Subscript.{Subscript as IndexNode}
 use Rattle.treecode.specs.declared.reference.Target.{Target}
 use Rattle.treecode.specs.declared.reference.Target.TheVariants as targets
-use Rattle.treecode.specs.Known.{offset_of_list}
-use Rattle.treecode.specs.Nodes.{Nodes}
-use Rattle.treecode.specs.Traits.{expression_of}
+use Rattle.treecode.specs.internal.Known.{offset_of_list}
+use Rattle.treecode.specs.internal.Nodes.{Nodes}
+use Rattle.treecode.specs.internal.Traits.{expression_of}
 
 -- the tables with one more expression, and its number
 abbrev pub put_expression : ScalarType → Nodes × ExpressionForm → Nodes × ExpressionNumber

@@ -3,7 +3,7 @@ use Rattle.std.specs.Prelude.{ℕ, List, Option}
 use Rattle.treecode.specs.declared.lowering.Lowering.{Lowering}
 use Rattle.treecode.specs.declared.module.ExternalName.{ExternalName}
 use Rattle.treecode.specs.declared.procedure.TreeProcedure.{TreeProcedure}
-use Rattle.treecode.specs.Nodes.{Nodes, nodes_of}
+use Rattle.treecode.specs.internal.Nodes.{Nodes, nodes_of}
 use Rattle.treecode.specs.internal.Walking.{Walk}
 
 -- the parts that no statement changes

@@ -7,9 +7,9 @@ use Rattle.layout.specs.Storage.{Storage}
 use Rattle.treecode.specs.declared.module.TreeModule.{TreeModule}
 use Rattle.treecode.specs.declared.procedure.TreeProcedure.{TreeProcedure}
 use Rattle.treecode.specs.declared.procedures.Body.{Body}
-use Rattle.treecode.specs.Homes.{parameters_of}
-use Rattle.treecode.specs.Lowered.{HasBody}
-use Rattle.treecode.specs.Nodes.{nodes_of}
+use Rattle.treecode.specs.internal.Homes.{parameters_of}
+use Rattle.treecode.specs.internal.Lowered.{HasBody}
+use Rattle.treecode.specs.internal.Nodes.{nodes_of}
 use Rattle.treecode.specs.internal.Beside.{Outside}
 use Rattle.treecode.specs.internal.Sound.{Leads}
 use Rattle.treecode.specs.internal.Walking.{Walk, begun, list_in}

@@ -5,7 +5,7 @@ use Rattle.typed_trees.specs.declared.parts.GlobalItem.TheVariants.{GlobalObject
 use Rattle.typed_trees.specs.TypedTrees.{TypedModule}
 use Rattle.treecode.specs.declared.globals.Externals.{Externals}
 use Rattle.treecode.specs.declared.module.ExternalName.{ExternalName}
-use Rattle.treecode.specs.Homes.{external_name}
+use Rattle.treecode.specs.internal.Homes.{external_name}
 use Rattle.treecode.specs.internal.Numbers.{with_number}
 
 -- the names so far, and the index among them of each EXTERNAL object and procedure, by its number

@@ -1,6 +1,6 @@
 -- Tables of nodes to which nodes are added.
 use Rattle.std.specs.Prelude.{◌≡◌, ℕ, ◌≤◌, List, length, Some, slice_get}
-use Rattle.treecode.specs.Nodes.{Nodes}
+use Rattle.treecode.specs.internal.Nodes.{Nodes}
 
 -- each entry of the first list is also in the second, at the same index
 abbrev pub Holds : {A : Type 0} → (before after : List A) → Type 0

@@ -14,8 +14,8 @@ use Rattle.treecode.specs.declared.place.Place.TheVariants.{Number}
 use Rattle.treecode.specs.declared.procedure.FrameVariable.{FrameVariable}
 use Rattle.treecode.specs.declared.procedure.ProcedureKind.{ProcedureKind}
 use Rattle.treecode.specs.declared.procedure.TreeProcedure.{TreeProcedure}
-use Rattle.treecode.specs.Homes.{external_place, frame_variables, home_after, kind_of, kind_with, location_of, place_of_slot}
-use Rattle.treecode.specs.Nodes.{home_at}
+use Rattle.treecode.specs.internal.Homes.{external_place, frame_variables, home_after, kind_of, kind_with, location_of, place_of_slot}
+use Rattle.treecode.specs.internal.Nodes.{home_at}
 use Rattle.treecode.specs.internal.Numbers.{number_in, with_number}
 
 -- the heading of a procedure, and the contents of its frame

@@ -1,9 +1,9 @@
 -- Sound nodes, and nodes that extend others.
 use Rattle.std.specs.Prelude.{◌≡◌, ◌≤◌, length}
-use Rattle.treecode.specs.Nodes.{Nodes}
-use Rattle.treecode.specs.Traits.{KeepTraits}
+use Rattle.treecode.specs.internal.Nodes.{Nodes}
+use Rattle.treecode.specs.internal.Traits.{KeepTraits}
 use Rattle.treecode.specs.internal.Growth.{Grows}
-use Rattle.treecode.specs.Rising.{NumbersRise}
+use Rattle.treecode.specs.internal.Rising.{NumbersRise}
 
 -- the traits of nodes follow from their parts, and their numbers rise
 pub record AreSound (nodes : Nodes) : Type 0 where

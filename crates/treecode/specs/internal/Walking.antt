@@ -11,9 +11,9 @@ use Rattle.treecode.specs.declared.statement.Statement.TheVariants as statements
 use Rattle.treecode.specs.declared.statement.StatementNumber.{StatementNumber}
 use Rattle.treecode.specs.declared.statements.AddedList.{AddedList}
 use Rattle.treecode.specs.declared.statements.AddedStatement.{AddedStatement}
-use Rattle.treecode.specs.Lowered.{ends_by}
-use Rattle.treecode.specs.Nodes.{Nodes}
-use Rattle.treecode.specs.Traits.{height_at, height_of_call, height_of_target, number_at}
+use Rattle.treecode.specs.internal.Lowered.{ends_by}
+use Rattle.treecode.specs.internal.Nodes.{Nodes}
+use Rattle.treecode.specs.internal.Traits.{height_at, height_of_call, height_of_target, number_at}
 use Rattle.treecode.specs.internal.Adding.{arguments_in, expression_in, target_in, with_both, with_item}
 use Rattle.treecode.specs.internal.Numbers.{number_in, with_number}
 

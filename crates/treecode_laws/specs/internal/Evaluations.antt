@@ -4,8 +4,8 @@ use Rattle.ports.specs.Events.{IsBeginning}
 use Rattle.meaning.specs.declared.reason.Reason.{Reason}
 use Rattle.meaning.specs.Outcomes.{State, Ended, More, Outside, Outcome, Gave, Stopped}
 use Rattle.treecode.specs.declared.expression.ExpressionNumber.{ExpressionNumber}
-use Rattle.treecode.specs.Nodes.{Nodes}
-use Rattle.treecode.specs.Traits.{known_at, quiet_at, storing_nothing_at}
+use Rattle.treecode.specs.internal.Nodes.{Nodes}
+use Rattle.treecode.specs.internal.Traits.{known_at, quiet_at, storing_nothing_at}
 
 -- a value found without a change of the state, or the reason for going outside
 pub data Answer (A : Type 0) : Type 0 where

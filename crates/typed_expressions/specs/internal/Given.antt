@@ -28,7 +28,7 @@ use Rattle.typing.specs.internal.ReferenceChecks.{Given, GivenMember, WithoutMem
 use Rattle.typing.specs.References.{Extent, AnElement, AlsoTheWhole, place_of, members_of, Measured}
 use Rattle.typing.specs.Nodes.{as_type}
 use Rattle.typing.specs.internal.Expressions.{arguments}
-use Rattle.typed_expressions.specs.Views.{known_view}
+use Rattle.typed_expressions.specs.internal.Views.{known_view}
 
 abbrev pub extent_view : CodeExtent → Extent
 extent_view extents.AnElement = AnElement

@@ -8,7 +8,7 @@ use Rattle.types.specs.declared.checker.Checker.{Checker}
 use Rattle.types.specs.declared.items.TypedItem.{TypedItem as CodeItem}
 use Rattle.typing.specs.Items.{TypedItem}
 use Rattle.typing.specs.Blocks.{Owner, TheModule, OfProcedure, Block, Progress}
-use Rattle.typed_expressions.specs.Views.{known_view, constants_view}
+use Rattle.typed_expressions.specs.internal.Views.{known_view, constants_view}
 
 abbrev pub owner_view : CodeOwner → Owner
 owner_view owners.Module = TheModule

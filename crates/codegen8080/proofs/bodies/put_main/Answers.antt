@@ -1,5 +1,5 @@
 use Rattle.codegen8080.proofs.Prelude.{◌≡◌, ℕ, length, rules, refl, ap, ◌∙◌, subst, sym, HasNothing, TreeModule, Site, Emission, Generator}
-use Rattle.treecode.specs.{Nodes.{nodes_of}, Rising.{NumbersRise}}
+use Rattle.treecode.specs.{internal.Nodes.{nodes_of}, internal.Rising.{NumbersRise}}
 use Rattle.codegen8080.specs.internal.Standing.{ListStands}
 use Rattle.codegen8080.proofs.BodyParts.{main_added}
 use Rattle.codegen8080.proofs.bodies.put_main.Goals as goal

@@ -1,5 +1,5 @@
 use Rattle.link_modules.proofs.Prelude.{◌≡◌, ◌++◌, length, map, starts_in}
-use Rattle.link_modules.specs.Views.{start_view}
+use Rattle.link_modules.specs.internal.Views.{start_view}
 use Rattle.link_modules.proofs.pieces.starts_of.Given as goal
 
 abbrev pub invariant-loop-rest : goal.invariant-loop-rest

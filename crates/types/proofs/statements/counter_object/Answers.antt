@@ -1,7 +1,7 @@
 use Rattle.types.proofs.Prelude.{rules, answers_fault}
 use Rattle.types.proofs.Counters.{counter_fails}
 use Rattle.typed_trees.specs.Views.{object_view}
-use Rattle.typed_expressions.specs.Views.{known_view}
+use Rattle.typed_expressions.specs.internal.Views.{known_view}
 use Rattle.types.specs.internal.Walking.{counter_view}
 use Rattle.types.proofs.statements.counter_object.Goals as goal
 

@@ -1,5 +1,5 @@
 use Rattle.types.proofs.Prelude.{◌≡◌, map, target_view, targets_for}
-use Rattle.typed_expressions.specs.Views.{destination_view}
+use Rattle.typed_expressions.specs.internal.Views.{destination_view}
 use Rattle.types.proofs.statements.targets_of.Given as goal
 
 abbrev pub invariant-loop-place : goal.invariant-loop-place

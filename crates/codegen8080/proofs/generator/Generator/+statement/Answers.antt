@@ -3,7 +3,7 @@ use Rattle.codegen8080.proofs.Driving.{carrying_begins, carrying_ends, holds_non
 use Rattle.codegen8080.proofs.PlansStand.{statement_steps_stand}
 use Rattle.codegen8080.proofs.Standing.{form_stands, item_is_there, item_stands, planned_stand, step_there}
 use Rattle.std.proofs.Common.{◌<◌, drop, rules}
-use Rattle.treecode.specs.Nodes.{Nodes, nodes_of}
+use Rattle.treecode.specs.internal.Nodes.{Nodes, nodes_of}
 use Rattle.codegen8080.specs.internal.Standing.{StatementStands, StepStands, StepsStand}
 use Rattle.codegen8080.proofs.generator.Generator.+statement.Goals.{planned-in-Some+in_ok-waiting, planned-in_default}
 use Rattle.codegen8080.proofs.generator.Generator.+statement.Goals as goal

@@ -1,0 +1,5 @@
+-- Cited by other crates, private functions and proofs, and by no contract of the program or of a library.
+pub mod Activations
+pub mod Computing
+pub mod Holding
+pub mod Asking
