@@ -1,7 +1,7 @@
 //! What is printed of the numbers of faults of the modules of a program together, of their places, and of files and options. `tools/faults --write` makes it of docs/faults.md.
 
 /// The pages, with form feeds between them. Each begins with its number, on a line of its own.
-pub const PROGRAMS: [u8; 7581] = *b"\
+pub const PROGRAMS: [u8; 7594] = *b"\
 J1
 
 An EXTERNAL name that no module has as PUBLIC, used or not. \"Where\" is the name.
@@ -252,9 +252,9 @@ permission to read it, or to write in its folder; and room on the disk. The
 program at the other end of a pipe must read all of it.
 \x0cU4
 
-An option with a text that is not one of its values, a second file for `locate`,
-`hex` and `list`, or a number that `explain` does not know. \"Where\" is that
-text, and the status is 2. Addresses are decimal, including that of
+An option with a text that is not one of its values, a second file for `hex`, or
+for `locate` without `--need`, or a number that `explain` does not know. \"Where\"
+is that text, and the status is 2. Addresses are decimal, including that of
 `hex --jump`.
 
     $ ./plm run --code 100H examples/answer.plm
