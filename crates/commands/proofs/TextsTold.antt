@@ -31,6 +31,9 @@ none_asked kinds (Wrong error) none is = tt
 pub wrong_not_done : (ending : Ending) → ending ≡ WrongLine → ending ≡ Done → ⊥
 wrong_not_done ending wrong done = cc
 
+pub wrong_not_refused : (ending : Ending) → ending ≡ WrongLine → ending ≡ Refused → ⊥
+wrong_not_refused ending wrong refused = cc
+
 pub done_or_refused : (ending : Ending) → (ending ≡ Done) ⊎ (ending ≡ Refused) → ending ≡ WrongLine → ⊥
 done_or_refused ending (inl done) wrong = cc
 done_or_refused ending (inr refused) wrong = cc

@@ -10,6 +10,7 @@ ghost use Rattle.command_line.specs.Command.{plm_app, place_in, wanted_by, wante
 ghost use Rattle.command_line.specs.Settings.{plan_read};
 ghost use Rattle.commands.specs.Orders.{AsksHelpAtMost, AsksNoHelp, ChangesAsWanted, ChangesByWords, PrintsAsWanted, PrintsByWords, PrintsObject, PrintsWanted, RefusesAsWanted, RefusesByWords, RefusesNoText, RefusesObject, RefusesPlaced, RunsAsWanted, RunsByWords, StopsAsWanted, StopsByWords, QuietAsWanted, QuietByWords, TellsObjectText, TellsText, TellsTextByWords, WritesAsWanted, WritesByWords, names_by_words, names_of};
 ghost use Rattle.commands.specs.Converting.{ConvertsAsWanted, ConvertsByWords, TellsAsWanted, TellsByWords, TellsOutput};
+ghost use Rattle.commands.specs.Refusing.{RunsOut};
 ghost use Rattle.commands.specs.internal.LineFaults.{IsWrong};
 
 use crate::converting::convert_by_tables;
@@ -41,7 +42,7 @@ use std::io::Write;
 /// A run with files of ports that is refused has begun none of them, and printed nothing, unless it had ended. Once it had,
 /// the files before one that could not be written are whole, and those after it as they were; standard output comes last.
 /// With status 2 no file changes, and nothing is printed. Words with a fault that do not ask for help or for the version never
-/// end with status 0.
+/// end with status 0, and with status 1 only where memory ran out: then that is told, and nothing is printed.
 #[tactic(auto, using(crate::proofs::OrdersKept::status_bound, crate::proofs::OrdersKept::done_is, crate::proofs::OrdersKept::not_done, crate::proofs::OrdersKept::not_refused, crate::proofs::OrdersKept::not_wrong, crate::proofs::OrdersKept::refused_is, crate::proofs::TextsTold::wrong_is))]
 pub fn run_command<F: Files, O: Write, E: Write>(
     alloc: Global,
@@ -72,6 +73,10 @@ pub fn run_command<F: Files, O: Write, E: Write>(
         result ≡ 2 → ⊥ }
     ensures usage { (fault_of plm_app (texts words.now) ≡ [] → ⊥) →
         AsksNoHelp (fault_of plm_app (texts words.now)) → result ≡ 0 → ⊥ }
+    ensures wrong { (fault_of plm_app (texts words.now) ≡ [] → ⊥) →
+        AsksNoHelp (fault_of plm_app (texts words.now)) → result ≡ 1 →
+        RunsOut (F.failures files.old) (F.failures files.new)
+        (E.contents err.old) (E.contents err.new) (O.contents out.old) (O.contents out.new) }
     ensures told { result ≡ 1 → TellsByWords (wanted_by (texts words.now))
         (TellsOutput (F.failures files.old) (F.failures files.new) (E.contents err.old) (E.contents err.new))
         (TellsRefusal (F.files files.old) (names_by_words (wanted_by (texts words.now)))
@@ -124,6 +129,10 @@ fn end_words<F: Files, O: Write, E: Write>(
         result ≡ Ending.WrongLine → ⊥ }
     ensures usage { (fault_of plm_app (texts words.now) ≡ [] → ⊥) →
         AsksNoHelp (fault_of plm_app (texts words.now)) → result ≡ Ending.Done → ⊥ }
+    ensures wrong { (fault_of plm_app (texts words.now) ≡ [] → ⊥) →
+        AsksNoHelp (fault_of plm_app (texts words.now)) → result ≡ Ending.Refused →
+        RunsOut (F.failures files.old) (F.failures files.new)
+        (E.contents err.old) (E.contents err.new) (O.contents out.old) (O.contents out.new) }
     ensures told { result ≡ Ending.Refused → TellsByWords (wanted_by (texts words.now))
         (TellsOutput (F.failures files.old) (F.failures files.new) (E.contents err.old) (E.contents err.new))
         (TellsRefusal (F.files files.old) (names_by_words (wanted_by (texts words.now)))

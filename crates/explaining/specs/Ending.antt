@@ -6,11 +6,12 @@ use Rattle.host.specs.Refusals.{TellsRefusal}
 use Rattle.command_line.specs.Command.{plm_app, wanted_by}
 use Rattle.commands.specs.Orders.{AsksHelpAtMost, AsksNoHelp, ChangesByWords, PrintsByWords, QuietByWords, RefusesByWords, RefusesNoText, RunsByWords, StopsByWords, TellsTextByWords, WritesByWords, names_by_words}
 use Rattle.commands.specs.Converting.{ConvertsByWords, TellsByWords, TellsOutput}
+use Rattle.commands.specs.Refusing.{RunsOut}
 use Rattle.explaining.specs.Growing.{Grows}
 use Rattle.explaining.specs.Looking.{Looks}
 
 -- These words end with this status; the files, the count of their failures, standard error and standard output go from the
--- first of each pair to the second. Each field is the clause of `run_command` that has its name.
+-- first of each pair to the second. Each field is the clause of `run_command` that has its name, and the first is `status`.
 pub record Ends
     (words : List Text) (status : ℕ) (files new : Option Directory) (before after : ℕ)
     (err_old err_new out_old out_new : Option (List ℕ)) : Type 0 where
@@ -29,6 +30,8 @@ pub record Ends
   pub not_wrong : AsksHelpAtMost (fault_of plm_app words) →
       (fault_of plm_app words ≡ [] → RefusesNoText (wanted_by words)) → status ≡ 2 → ⊥
   pub usage : (fault_of plm_app words ≡ [] → ⊥) → AsksNoHelp (fault_of plm_app words) → status ≡ 0 → ⊥
+  pub wrong : (fault_of plm_app words ≡ [] → ⊥) → AsksNoHelp (fault_of plm_app words) → status ≡ 1 →
+      RunsOut before after err_old err_new out_old out_new
   pub told : status ≡ 1 → TellsByWords (wanted_by words) (TellsOutput before after err_old err_new)
       (TellsRefusal files (names_by_words (wanted_by words)) before after err_old err_new)
   pub converted : fault_of plm_app words ≡ [] → ConvertsByWords

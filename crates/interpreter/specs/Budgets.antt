@@ -4,7 +4,7 @@ use Rattle.ports.specs.declared.event.Event.{Event}
 use Rattle.ports.specs.Events.{IsBeginning}
 use Rattle.meaning.specs.Outcomes.{Stop, Ended, More, Outside}
 use Rattle.meaning.specs.Run.{Run}
-use Rattle.stack_machine.specs.FailedCalls.{IsCallOf}
+use Rattle.stack_machine.specs.Ends.{IsCallOf}
 use Rattle.stack_machine.specs.declared.end.RunFault.{RunFault}
 use Rattle.stack_machine.specs.declared.end.RunFault.TheVariants as faults
 

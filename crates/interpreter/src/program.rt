@@ -7,7 +7,7 @@ ghost use Rattle.layout.specs.StartingMemory.{starting_memory};
 ghost use Rattle.placing.specs.Views.{placement_view};
 ghost use Rattle.declared.specs.Access.{modules_in};
 ghost use Rattle.meaning.specs.Run.{source_run};
-ghost use Rattle.stack_machine.specs.internal.Runs.{FaultCounts, stop_of};
+ghost use Rattle.stack_machine.specs.Ends.{FaultCounts, stop_of};
 ghost use Rattle.interpreter.specs.Budgets.{FailsAt, Uses};
 
 use crate::contents::fill;

@@ -1,2 +1,2 @@
-pub mod FailedCalls
+pub mod Ends
 pub mod internal

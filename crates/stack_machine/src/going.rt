@@ -5,7 +5,8 @@ ghost use Rattle.declared.specs.Access.{AreKindsOf, modules_in};
 ghost use Rattle.declared.specs.internal.Frames.{module_frames};
 ghost use Rattle.stack_code.specs.internal.Machine.{steps};
 ghost use Rattle.stack_code.specs.internal.Program.{AreTablesOf};
-ghost use Rattle.stack_machine.specs.internal.Runs.{FaultCounts, Reaches, ReachesFault, Stops, stop_of};
+ghost use Rattle.stack_machine.specs.Ends.{FaultCounts, stop_of};
+ghost use Rattle.stack_machine.specs.internal.Runs.{Reaches, ReachesFault, Stops};
 ghost use Rattle.stack_machine.specs.internal.Views.{machine_view, program_in};
 
 use crate::end::{RunFault, SourceEnd};

@@ -4,7 +4,7 @@ ghost use Rattle.std.specs.Prelude.{◌≡◌, ◌∷◌, ◌+◌, ◌<◌, ◌%
 ghost use Rattle.ports.specs.Events.{AddsEvent, read_event, write_event};
 ghost use Rattle.ports.specs.Input.{input_value};
 ghost use Rattle.stack_code.specs.internal.Machine.{top};
-ghost use Rattle.stack_machine.specs.internal.Runs.{FaultCounts};
+ghost use Rattle.stack_machine.specs.Ends.{FaultCounts};
 ghost use Rattle.stack_machine.specs.internal.Performs.{IsFaultOfInput, IsFaultOfOutput};
 
 use crate::end::RunFault;

@@ -6,7 +6,8 @@ ghost use Rattle.placing.specs.Views.{placement_view};
 ghost use Rattle.declared.specs.Access.{AreKindsOf, modules_in};
 ghost use Rattle.stack_code.specs.internal.Program.{AreTablesOf};
 ghost use Rattle.stack_code.specs.internal.Run.{stack_run, start_surroundings};
-ghost use Rattle.stack_machine.specs.internal.Runs.{FaultCounts, Reaches, ReachesFault, Stops, state_at_start, stop_of};
+ghost use Rattle.stack_machine.specs.Ends.{FaultCounts, stop_of};
+ghost use Rattle.stack_machine.specs.internal.Runs.{Reaches, ReachesFault, Stops, state_at_start};
 
 use crate::calls::Calls;
 use crate::end::{RunFault, SourceEnd};

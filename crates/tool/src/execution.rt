@@ -128,7 +128,8 @@ pub fn execute_with<P: Ports>(
 /// where one is given, for at most so many steps. It writes a line for each event that is not of a quiet port, those of some
 /// steps at a time while it runs, and then the word that the run ends with. The answer is how the run ended, and the machine
 /// at its end: a port failed just where that machine has counted it. After a failure the writer has a beginning of that text.
-/// Where the program never goes outside, what is written of a machine that halted is just what a source that ended does.
+/// Where the program never goes outside, what is written of a machine that halted is just what a source that ended does, and
+/// that machine has the memory of its source where that ended.
 pub fn print_run<W: Write>(
     built: &Built,
     memory: Memory,
@@ -148,6 +149,9 @@ pub fn print_run<W: Write>(
         NeverOutside source
         → IfOk result (λ ran. ran.0 ≡ End.Halted
         → PrintsEnded quiet.now source (W.contents out.old) (W.contents out.new)) }
+    ensures memory { NeverOutside (source_of built.now memory script.script script.events)
+        → IfOk result (λ ran. ran.0 ≡ End.Halted
+        → HasMemoryOf built.now memory (outcomes_of built.now memory script.script script.events) ran.1) }
 {
     let mut machine = machine_of(built, memory, script, table);
     let end = print_machine(&mut machine, limit, quiet, out)?;

@@ -4,7 +4,7 @@ ghost use Rattle.std.specs.Prelude.{◌≡◌, [], IfOk, IfSome, None, OnErr, ma
 ghost use Rattle.host.specs.Endings.{status_of};
 ghost use Rattle.command_line.specs.Settings.{values_in};
 ghost use Rattle.command_line.specs.declared.orders.Action.TheVariants.{Interpret};
-ghost use Rattle.interpreter.specs.internal.Runs.{stop_of};
+ghost use Rattle.interpreter.specs.Ends.{stop_of};
 ghost use Rattle.sources.specs.Programs.{IsProgramOf, program_modules, texts_of};
 ghost use Rattle.tool.specs.Execution.{source_of};
 ghost use Rattle.commands.specs.Ends.{GivesInput, source_status, source_word};

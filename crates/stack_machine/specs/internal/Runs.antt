@@ -1,19 +1,12 @@
 -- How runs of stack code end.
 use Rattle.std.specs.Prelude.{◌≡◌, ℕ, suc, List, []}
 use Rattle.ports.specs.declared.event.Event.{Event}
-use Rattle.ports.specs.Events.{AddsEvent, CountsFailure}
-use Rattle.meaning.specs.Outcomes.{State, Stop, Ended, More, Outside}
+use Rattle.ports.specs.Events.{AddsEvent}
+use Rattle.meaning.specs.Outcomes.{State, Stop}
 use Rattle.stack_code.specs.internal.Machine.{Machine, Progress, Going, Done}
-use Rattle.stack_machine.specs.FailedCalls.{IsCallOf}
-use Rattle.stack_machine.specs.declared.end.SourceEnd.{SourceEnd}
-use Rattle.stack_machine.specs.declared.end.SourceEnd.TheVariants as ends
+use Rattle.stack_machine.specs.Ends.{IsCallOf}
 use Rattle.stack_machine.specs.declared.end.RunFault.{RunFault}
 use Rattle.stack_machine.specs.declared.end.RunFault.TheVariants as faults
-
-abbrev pub stop_of : SourceEnd → Stop
-stop_of ends.Ended = Ended
-stop_of ends.More = More
-stop_of (ends.Outside reason) = Outside reason
 
 -- where a run begins: with nothing in the frame
 abbrev pub state_at_start : (memory : List ℕ) → (events : List Event) → (budget : ℕ) → State
@@ -34,12 +27,6 @@ pub record Reaches (run : (count : ℕ) → Progress) (events : List Event) : Ty
   pub machine : Machine
   pub going : run count ≡ Going machine
   pub events_are : machine.state.events ≡ events
-
--- only a port that failed is counted
-abbrev pub FaultCounts : RunFault → (before after : ℕ) → Type 0
-FaultCounts (faults.Input port) before after = CountsFailure before after
-FaultCounts (faults.Output port) before after = CountsFailure before after
-FaultCounts faults.Memory before after = after ≡ before
 
 -- After some steps the program is still running, these are the events so far, and so much of the budget is left. Its next step
 -- is the read or the write of a port that failed, which takes none of the budget.

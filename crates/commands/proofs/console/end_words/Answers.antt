@@ -1,4 +1,4 @@
-use Rattle.commands.proofs.{Prelude.{wanted_by, ap, texts, status_of, refl, subst, sym, files_stay, tells_no_file, IsWrong}, Untold.{runs_out}, OrdersKept.{converts_by_words, kept_by_words, kept_stops, memory_converts, tells_any, tells_by_words}, ProgramsTold.{memory_by_words, quiet_by_any, quiet_by_words, refuses_by_words, runs_by_words}, TextsTold.{help_at_most, none_asked, none_told, wrong_not_done}}
+use Rattle.commands.proofs.{Prelude.{wanted_by, ap, texts, status_of, refl, subst, sym, files_stay, tells_no_file, IsWrong}, Untold.{runs_out}, OrdersKept.{converts_by_words, kept_by_words, kept_stops, memory_converts, tells_any, tells_by_words}, ProgramsTold.{memory_by_words, quiet_by_any, quiet_by_words, refuses_by_words, runs_by_words}, TextsTold.{help_at_most, none_asked, none_told, wrong_not_done, wrong_not_refused}}
 use Rattle.commands.proofs.console.end_words.Goals as goal
 
 pub returns-in-Ok-clause-not_wrong : goal.returns-in-Ok-clause-not_wrong
@@ -20,6 +20,13 @@ returns-in-Err-Fault-clause-not_wrong g c = λ help none wrong. help_at_most _ _
 pub returns-in-Err-Fault-clause-usage : goal.returns-in-Err-Fault-clause-usage
 returns-in-Err-Fault-clause-usage g c = λ fault none done.
     wrong_not_done _ (c.end_line.ensures.usage (subst IsWrong (sym c.in-Err-Fault.fault-is) (none_asked _ _ none (rw c.in-Err-Fault.field-0-is at c.in-Err-Fault.ensures.fault)))) done
+
+pub returns-in-Err-Fault-clause-wrong : goal.returns-in-Err-Fault-clause-wrong
+returns-in-Err-Fault-clause-wrong g c = λ fault none refused.
+    absurd (wrong_not_refused _ (c.end_line.ensures.usage (subst IsWrong (sym c.in-Err-Fault.fault-is) (none_asked _ _ none (rw c.in-Err-Fault.field-0-is at c.in-Err-Fault.ensures.fault)))) refused)
+
+pub returns-in-Err-Memory-clause-wrong : goal.returns-in-Err-Memory-clause-wrong
+returns-in-Err-Memory-clause-wrong g c = λ fault none refused. runs_out _ _ _ _ _ refl c.refuse_memory.ensures.line
 
 pub returns-in-Err-Memory-clause-unchanged : goal.returns-in-Err-Memory-clause-unchanged
 returns-in-Err-Memory-clause-unchanged g c = kept_by_words (wanted_by (texts c.args.words.now)) (g.F.Files.files c.args.files.now) (g.F.Files.files c.args.files.now) (files_stay (g.F.Files.files c.args.files.now))

@@ -16,6 +16,9 @@ returns-clause-silent g c = λ two. c.end_words-ending.ensures.silent (wrong_is 
 pub returns-clause-usage : goal.returns-clause-usage
 returns-clause-usage g c = λ fault none zero. c.end_words-ending.ensures.usage fault none (done_is _ (sym c.status.ensures ∙ zero))
 
+pub returns-clause-wrong : goal.returns-clause-wrong
+returns-clause-wrong g c = λ fault none one. c.end_words-ending.ensures.wrong fault none (refused_is _ (sym c.status.ensures ∙ one))
+
 pub returns-clause-faulty : goal.returns-clause-faulty
 returns-clause-faulty g c = λ fault. subst (λ (s : ℕ). s ≤ 2) (sym c.status.ensures) (c.end_words-ending.ensures.faulty fault)
 
