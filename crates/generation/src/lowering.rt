@@ -2,6 +2,7 @@
 #![tactic(auto)]
 
 ghost use Rattle.std.specs.Prelude.{IfOk};
+ghost use Rattle.typed_trees.specs.Globals.{ListsGlobals};
 ghost use Rattle.typed_trees.specs.Jumps.{JumpsAreSound};
 ghost use Rattle.typed_trees.specs.Views.{module_view};
 ghost use Rattle.layout.specs.Views.{layout_view};
@@ -22,6 +23,7 @@ use typed_trees::Typed;
 #[tactic(auto, using(crate::proofs::TreeCode::keeps_result, crate::proofs::Linkable::keeps_names, codegen8080::proofs::LoweredStand::stands_result, codegen8080::proofs::LoweredStand::source_result))]
 pub fn lower(alloc: Global, typed: &Typed, storage: &Layout) -> Result<TreeModule, AllocError>
     requires jumps { JumpsAreSound (module_view typed.now) }
+    requires globals { ListsGlobals (module_view typed.now) }
     ensures lowered { IfOk result (IsLowered (module_view typed.now) (layout_view storage.now)) }
     ensures stand { IfOk result BodiesStand }
     ensures names { IfOk result (KeepsNames (module_view typed.now)) }

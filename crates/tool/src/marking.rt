@@ -1,6 +1,7 @@
 //! Where the code of a source comes from.
 
 ghost use Rattle.std.specs.Prelude.{IfOk};
+ghost use Rattle.typed_trees.specs.Globals.{ListsGlobals};
 ghost use Rattle.typed_trees.specs.Jumps.{JumpsAreSound};
 ghost use Rattle.typed_trees.specs.Views.{module_view};
 ghost use Rattle.sources.specs.Reading.{IsSource};
@@ -66,7 +67,8 @@ fn with_lines(
 
 // Where the parts of the code of a module that was read begin.
 fn places_of(alloc: Global, source: &SourceModule) -> Result<Vec<Mark>, AllocError>
-    requires { JumpsAreSound (module_view source.now.typed) }
+    requires jumps { JumpsAreSound (module_view source.now.typed) }
+    requires globals { ListsGlobals (module_view source.now.typed) }
 {
     let tree = lower(alloc, &source.typed, &source.storage)?;
     let places = code_marks(alloc, &tree);
@@ -82,7 +84,8 @@ fn places_of(alloc: Global, source: &SourceModule) -> Result<Vec<Mark>, AllocErr
 // A source that is read.
 fn read(alloc: Global, text: &[u8]) -> Result<SourceModule, AllocError>
     requires source { IsSource text.now }
-    ensures { IfOk result (λ read. JumpsAreSound (module_view read.typed)) }
+    ensures jumps { IfOk result (λ read. JumpsAreSound (module_view read.typed)) }
+    ensures globals { IfOk result (λ read. ListsGlobals (module_view read.typed)) }
 {
     match read_source(alloc, text) {
         Ok(source) => Ok(source),
