@@ -13,6 +13,7 @@ pub mod BoundLabels
 pub mod EntryLabels
 pub mod LoweredStand
 pub mod BoundModules
+pub mod PlacedLabels
 pub mod Driving
 pub mod BodyParts
 pub mod ModuleParts

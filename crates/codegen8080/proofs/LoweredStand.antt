@@ -4,8 +4,6 @@ use Rattle.typed_trees.specs.TypedTrees.{TypedModule}
 use Rattle.layout.specs.Storage.{Storage}
 use Rattle.treecode.specs.internal.Lowered.{IsLowered}
 use Rattle.codegen8080.proofs.Standing.{list_stands}
-use Rattle.typed_trees.specs.Jumps.{JumpsAreSound}
-use Rattle.codegen8080.specs.internal.Sources.{IsOfModule}
 use Rattle.codegen8080.specs.internal.Standing.{BodiesStand}
 
 -- an item of a list
@@ -38,13 +36,3 @@ pub stands_result :
     → IfOk result BodiesStand
 stands_result typed storage (Ok tree) lowered = bodies_stand typed storage tree lowered
 stands_result typed storage (Err fault) lowered = lowered
-
--- it is of the module that it is lowered from
-pub source_result :
-    {E : Type 0} (typed : TypedModule) (storage : Storage) (result : Result TreeModule E)
-    → JumpsAreSound typed
-    → IfOk result (IsLowered typed storage)
-    → IfOk result IsOfModule
-source_result typed storage (Ok tree) jumps lowered =
-    record { typed = typed; storage = storage; jumps = jumps; lowered = lowered }
-source_result typed storage (Err fault) jumps lowered = lowered

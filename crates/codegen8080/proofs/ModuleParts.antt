@@ -1,15 +1,18 @@
 -- The code of a module, from the code of its parts.
 use Rattle.codegen8080.proofs.Prelude.{◌≡◌, ℕ, zero, suc, ◌+◌, inl, inr, Bool, true, false, List, length-replicate, replicate, slice_index_or, [], ◌∷◌, ◌++◌, Option, Some, None, Result, Ok, Err, OnOk, slice_get, length, take, drop, ◌-◌, ◌<◌, arith, refl, sym, ap, subst, ◌∙◌, append_assoc, append-nil, add-one, option_map, none-some, Item, Routine, Content, TreeModule, ProcedureKind, TreeProcedure, Extends, entry, no_facts, label_after, Written, Writes, in_front, items_stay, writes_nothing, writes_then, has_routine, index_of_routine, module_routine_label, HasAll, IsEmpty, NotesCalled, has_itself, none_noted, notes_then, Generator, LabelledList, LabelledSteps, AreRoutines, IsCodeOfRoutine, IsCodeWritten, IsMainCode, IsMainLabelled, IsOwnCode, IsProcedureCode, IsProcedureLabelled, all_routines, content_items, contents_items, has_main, entry_labels, entry_steps, AddsCalled, AddsCodeOfMain, AddsMain, AddsOwnCode, AddsProcedure, AddsProcedures, AddsRoutineIf, AddsRoutines, LabelledCode, LabelledCodeOfMain, LabelledEnd, LabelledProcedure, LabelledProcedures, same_Some, nothing_there}
 use Rattle.std.proofs.Common.{◌==◌, ◌≤◌, ◌⊎◌}
-use Rattle.std.proofs.lemmas.Bool.{eqb-true}
+use Rattle.std.proofs.lemmas.Bool.{cases_lt, eqb-true}
+use Rattle.asm8080.specs.Assembled.{AllBound}
 use Rattle.asm8080.specs.Items.{is_bound}
 use Rattle.steps8080.proofs.{Binding.{true_of}, Numbered.{false_by, not_both}}
-use Rattle.steps8080.specs.internal.Writer.{AreWritable, is_marked, numbered}
+use Rattle.steps8080.specs.internal.Writer.{AreWritable, CountsNamed, is_marked, name_label, numbered}
 use Rattle.exprgen8080.specs.internal.Emission.{module_label_of_routine}
 use Rattle.codegen8080.specs.internal.Bodies.{AreFree, IsLabelOf}
+use Rattle.codegen8080.specs.internal.ItemLabels.{ItemsBind}
 use Rattle.codegen8080.specs.internal.Sources.{IsOfModule}
 use Rattle.codegen8080.specs.internal.Standing.{AllStand}
 use Rattle.codegen8080.proofs.BoundModules.{contents_unbound, own_code_bound}
+use Rattle.codegen8080.proofs.PlacedLabels.{all_bound, bound_after, bound_binds, bound_first}
 use Rattle.asm8080.specs.declared.item.Item.TheVariants as items
 use Rattle.treecode.specs.declared.procedure.ProcedureKind.TheVariants as kinds
 use Rattle.codegen8080.proofs.BodyParts.{end_kept}
@@ -388,9 +391,12 @@ routine_kept tree before after routine true list labels is = record {
 routine_kept tree before after routine false list labels is = is
 
 -- one item by its number
+abbrev OneFront : List Item → Option ℕ → Type 0
+OneFront made label = (found : ℕ) × (label ≡ Some found) × (made ≡ items.Mark found ∷ [])
+
 one_front : (made : List Item) (label : Option ℕ)
     → in_front (option_map items.Mark label) (Some []) ≡ Some made
-    → (found : ℕ) × (label ≡ Some found) × (made ≡ items.Mark found ∷ [])
+    → OneFront made label
 one_front made None given = let bad : None ≡ Some made = given in cc
 one_front made (Some found) given =
     (found, refl, ap (λ (list : Option (List Item)). elim list [ Some all ↦ all | None ↦ [] ]) (sym given))
@@ -403,6 +409,9 @@ record AddsOne (tree : TreeModule) (is_called : Bool) (routine : Routine)
   is :
       is_marked before.marked (module_label_of_routine tree routine).index ≡ false
       → IsCodeOfRoutine tree after routine is_called list
+  counted :
+      is_marked before.marked (module_label_of_routine tree routine).index ≡ false
+      → (label : ℕ) → label < after.code.labels → (label < before.code.labels) ⊎ ItemsBind label list
   marked :
       (label : ℕ) → is_marked after.marked label ≡ true
       → (is_marked before.marked label ≡ true) ⊎ (label ≡ (module_label_of_routine tree routine).index)
@@ -505,6 +514,9 @@ one_added tree routine false before after same = record {
   list = [];
   added = ap (λ (written : Written). written.code.items) same ∙ sym (append-nil before.code.items);
   is = λ free. refl;
+  counted = λ free label low.
+      let count : after.code.labels ≡ before.code.labels = ap (λ (written : Written). written.code.labels) same in
+      inl (omega (arith, low, count));
   marked = λ label given. inl (ap (λ (written : Written). is_marked written.marked label) (sym same) ∙ given);
   labels = λ number found given. ap (λ (written : Written). entry written.labels number) same ∙ given;
   externals = λ number found given. ap (λ (written : Written). entry written.externals number) same ∙ given;
@@ -515,24 +527,36 @@ one_added tree routine false before after same = record {
 one_added tree routine true before after writes =
     let entered : Written = writes.entered in
     let at : ℕ = (module_routine_label tree (index_of_routine routine)).index in
+    let front : is_marked before.marked at ≡ false → OneFront writes.marked.made (entry entered.labels at) =
+    λ free.
+    one_front writes.marked.made (entry entered.labels at) (writes.marked.same (one_label_writable before at free)) in
     record {
       list = writes.marked.made ++ writes.added.items;
       added =
           writes.added.added
           ∙ ap (λ list. list ++ writes.added.items) writes.marked.added
           ∙ append_assoc before.code.items writes.marked.made writes.added.items;
-      is = λ free.
-          let front =
-          one_front writes.marked.made (entry entered.labels at)
-          (writes.marked.same (one_label_writable before at free)) in
-          record {
-            label = front.0;
-            known = ap (λ table. entry table at) writes.labels ∙ front.1;
-            listing = writes.added.items;
-            is_routine = writes.added.is_routine;
-            size = writes.added.size;
-            list_is = ap (λ list. list ++ writes.added.items) front.2;
-          };
+      is = λ free. record {
+        label = (front free).0;
+        known = ap (λ table. entry table at) writes.labels ∙ (front free).1;
+        listing = writes.added.items;
+        is_routine = writes.added.is_routine;
+        size = writes.added.size;
+        list_is = ap (λ list. list ++ writes.added.items) (front free).2;
+      };
+      counted = λ free label low. elim (cases_lt label entered.code.labels) [
+        | inl known ↦ elim (writes.marked.counted label known) [
+          | inl old ↦ inl old
+          | inr named ↦
+              let same : label ≡ (front free).0 =
+              same_Some label (front free).0
+              (sym named.1 ∙ ap (entry entered.labels) (one_label named.0 at named.2) ∙ (front free).1) in
+              inr (bound_first label writes.marked.made writes.added.items
+              (subst (ItemsBind label) (sym (front free).2) (inl same)))
+        ]
+        | inr past ↦ inr (bound_after label writes.marked.made writes.added.items
+            (bound_binds label writes.added.items (writes.added.bound label past low)))
+      ];
       marked = λ label given.
           elim (writes.marked.marked label (ap (λ flags. is_marked flags label) (sym writes.places) ∙ given)) [
             | inl old ↦ inl old
@@ -558,6 +582,7 @@ no_routines tree called written = record {
   list = [];
   added = sym (append-nil written.code.items);
   are = λ free. refl;
+  counted = λ free label low. inl low;
   marked = λ label given. inl given;
   labels = λ number found given. given;
   externals = λ number found given. given;
@@ -588,6 +613,17 @@ routine_then tree called routine others before between after first rest =
             one.marked free.1),
         refl,
       );
+      counted = λ free label low.
+          elim
+          (rest.counted
+          (free_after tree before.marked between.marked others (module_label_of_routine tree routine).index free.2
+          one.marked free.1) label low) [
+            | inl known ↦ elim (one.counted free.0 label known) [
+              | inl old ↦ inl old
+              | inr bound ↦ inr (bound_first label one.list rest.list bound)
+            ]
+            | inr bound ↦ inr (bound_after label one.list rest.list bound)
+          ];
       marked = λ label given. elim (rest.marked label given) [
         | inl known ↦ elim (one.marked label known) [ inl old ↦ inl old | inr same ↦ inr (inl same) ]
         | inr is ↦ inr (inr is)
@@ -650,6 +686,18 @@ routines_then tree called routines others before between after first second = re
       (free_between tree before.marked between.marked routines others
       (free_later tree before.marked routines others free) first.marked
       (λ one here later. free_apart tree before.marked routines others one free here later)));
+  counted = λ free label low.
+      elim
+      (second.counted
+      (free_between tree before.marked between.marked routines others
+      (free_later tree before.marked routines others free) first.marked
+      (λ one here later. free_apart tree before.marked routines others one free here later)) label low) [
+        | inl known ↦ elim (first.counted (free_first tree before.marked routines others free) label known) [
+          | inl old ↦ inl old
+          | inr bound ↦ inr (bound_first label first.list second.list bound)
+        ]
+        | inr bound ↦ inr (bound_after label first.list second.list bound)
+      ];
   marked = λ label given. elim (second.marked label given) [
     | inl known ↦ elim (first.marked label known) [
       | inl old ↦ inl old
@@ -744,6 +792,18 @@ own_writable tree start before between made none own few =
           ])),
     )
 
+-- the routines are added to the own code
+from_own :
+    (tree : TreeModule) (between : Generator) (called : List Bool) (written after : Written)
+    → called ≡ between.emission.is_called.items
+    → written ≡ between.emission.writer
+    → AddsRoutines tree called all_routines written after
+    → AddsRoutines tree between.emission.is_called.items all_routines between.emission.writer after
+from_own tree between called written after called_is written_is added =
+    subst (λ (from : Written). AddsRoutines tree between.emission.is_called.items all_routines from after)
+    written_is
+    (subst (λ table. AddsRoutines tree table all_routines written after) called_is added)
+
 -- the code of a module, from its own code and the routines
 pub code_written :
     (tree : TreeModule) (start : ℕ) (before between : Generator) (called : List Bool)
@@ -758,11 +818,7 @@ pub code_written :
     → IsCodeWritten tree start after
 code_written tree start before between called written after none own called_is written_is added made few =
     let writable = own_writable tree start before between made none own few in
-    let routines : AddsRoutines tree between.emission.is_called.items all_routines
-    between.emission.writer after =
-    subst (λ (from : Written). AddsRoutines tree between.emission.is_called.items all_routines from after)
-    written_is
-    (subst (λ table. AddsRoutines tree table all_routines written after) called_is added) in
+    let routines = from_own tree between called written after called_is written_is added in
     let nothing : before.emission.writer.code.items ≡ [] =
     ap (λ (written : Written). written.code.items) none.items in
     record {
@@ -798,3 +854,46 @@ code_written tree start before between called written after none own called_is w
             | inr is_called ↦ is_called
           ];
     }
+
+-- each label of code is named by the first items that are added to none, or bound by the others
+counted_in_both :
+    (before between after : Written) (list more : List Item)
+    → before.code.labels ≡ 0
+    → CountsNamed before between list
+    → Extends between.labels after.labels
+    → ((label : ℕ) → label < after.code.labels → (label < between.code.labels) ⊎ ItemsBind label more)
+    → (label : ℕ) → label < after.code.labels
+    → ((number : ℕ) × (entry after.labels number ≡ Some label) × (name_label number list ≡ true))
+    ⊎ ItemsBind label more
+counted_in_both before between after list more none counted labels further label low =
+    elim (further label low) [
+      | inl known ↦ elim (counted label known) [
+        | inl old ↦ absurd (omega (arith, old, none))
+        | inr named ↦ inl (named.0, labels named.0 label named.1, named.2)
+      ]
+      | inr bound ↦ inr bound
+    ]
+
+-- each label of that code is bound
+pub code_all_bound :
+    (tree : TreeModule) (start : ℕ) (before between : Generator) (called : List Bool)
+    (written after : Written)
+    → IsEmpty tree before.emission
+    → AddsOwnCode tree start before between
+    → called ≡ between.emission.is_called.items
+    → written ≡ between.emission.writer
+    → AddsRoutines tree called all_routines written after
+    → IsOfModule tree
+    → between.emission.steps.labels < 4294967295
+    → AllBound after.code
+unfolding code_written
+code_all_bound tree start before between called written after none own called_is written_is added made few =
+    let writable = own_writable tree start before between made none own few in
+    let routines = from_own tree between called written after called_is written_is added in
+    let nothing : before.emission.writer.code.labels ≡ 0 =
+    ap (λ (written : Written). written.code.labels) none.items in
+    all_bound tree start after
+    (code_written tree start before between called written after none own called_is written_is added made few)
+    (made.placed between.emission.is_called.items start own.list own.written.0)
+    (counted_in_both before.emission.writer between.emission.writer after own.list routines.list nothing
+    own.writes.counted routines.labels (routines.counted writable.1))

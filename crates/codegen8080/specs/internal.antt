@@ -6,6 +6,7 @@ pub mod Labelled
 pub mod Code
 pub mod Driven
 pub mod Modules
+pub mod ItemLabels
 pub mod Refusals
 pub mod Marking
 pub mod Names

@@ -1,7 +1,6 @@
 //! The EXTERNAL and PUBLIC names of a module, without duplicates.
 
 ghost use Rattle.std.specs.Prelude.{◌≡◌, [], ◌∷◌, ◌++◌, false, length, map, IfOk, IsTrue};
-ghost use Rattle.symbols.specs.Names.{is_name};
 ghost use Rattle.object_modules.specs.Module.{is_among, may_have_publics};
 ghost use Rattle.object_modules.specs.Views.{owned_public_view};
 ghost use Rattle.codegen8080.specs.internal.Names.{names_of};
@@ -9,15 +8,6 @@ ghost use Rattle.codegen8080.specs.internal.Names.{names_of};
 use object_modules::{Name, OwnedPublic};
 use std::alloc::{AllocError, Global};
 use std::marker::Model;
-
-/// Returns the name, which is valid.
-pub(crate) fn valid(name: Name) -> Name
-    ensures same { result ≡ name }
-    ensures valid { IsTrue (is_name result) }
-{
-    let _ = name.as_slice();
-    name
-}
 
 /// The EXTERNAL names that a module refers to, and its PUBLIC names, both in the order of the text, without duplicates.
 pub(crate) struct LinkageNames {
@@ -68,7 +58,6 @@ impl LinkageNames {
         ensures publics { IfOk result (λ names. names.publics ≡ []) }
         ensures externals { IfOk result (λ names. names.externals ≡ self.externals ++ name ∷ []) }
     {
-        let name = valid(name);
         let LinkageNames {
             mut externals,
             publics,
@@ -85,7 +74,6 @@ impl LinkageNames {
         ensures publics { IfOk result
             (λ names. names.publics ≡ self.publics ++ owned_public_view public ∷ []) }
     {
-        let _ = valid(public.name);
         let LinkageNames {
             externals,
             mut publics,

@@ -2,6 +2,7 @@
 
 ghost use Rattle.std.specs.Prelude.{◌≡◌, ◌<◌, false, length, slice_index_or, Some, IfOk, OnOk};
 ghost use Rattle.failure.specs.Failure.{IfFault};
+ghost use Rattle.asm8080.specs.Assembled.{AllBound};
 ghost use Rattle.treecode.specs.internal.Nodes.{nodes_of};
 ghost use Rattle.treecode.specs.internal.Rising.{NumbersRise};
 ghost use Rattle.codegen8080.specs.internal.Modules.{IsCodeWritten, IsGenerated, all_routines, content_items, contents_items, has_main};
@@ -217,7 +218,8 @@ pub(crate) fn code_of(alloc: Global, tree: &TreeModule) -> Result<ModuleCode, Al
     requires rise { NumbersRise (nodes_of tree.now) }
     requires stands { BodiesStand tree.now }
     requires source { IsOfModule tree.now }
-    ensures { IfOk result (λ code. IsCodeWritten tree.now code.start.index code.writer) }
+    ensures written { IfOk result (λ code. IsCodeWritten tree.now code.start.index code.writer) }
+    ensures bound { IfOk result (λ code. AllBound code.writer.code) }
 {
     let mut generator = Generator::new(alloc, tree)?;
     let start = put_own_code(alloc, &mut generator, tree)?;
@@ -244,6 +246,7 @@ fn variables_of(
     ensures count { IfOk result (λ written. length written.externals ≡ length externals) }
     ensures names { IfOk result (λ written. NumbersNames externals written.externals
         (contents_items tree.now.variables.items)) }
+    ensures bound { IfOk result (λ written. AllBound written.code) }
 {
     let mut writer = Writer::sharing(alloc, externals);
     put_contents(&mut writer, tree.variables.as_slice())?;
@@ -253,6 +256,7 @@ fn variables_of(
 /// Code as bytes, and the EXTERNAL names that it refers to.
 #[tactic(auto, using(crate::proofs::KeptSegments::finished_keeps, crate::proofs::Refused::too_long))]
 pub(crate) fn finish(writer: Writer) -> Result<(Finished, Externals), Failure<Fault>>
+    requires bound { AllBound writer.code }
     ensures keeps { IfOk result (λ both. KeepsFixes both.0.bytes) }
     ensures finishes { IfOk result (λ both. Finishes writer both.0.bytes both.0.labels.items) }
     ensures externals { IfOk result (λ both. both.1 ≡ writer.externals) }
@@ -261,8 +265,8 @@ pub(crate) fn finish(writer: Writer) -> Result<(Finished, Externals), Failure<Fa
     match writer.finish() {
         Ok(both) => Ok(both),
         Err(Failure::Fault(asm8080::Fault::TooLong)) => Err(Failure::Fault(Fault::TooLong)),
-        // This does not occur: each label that the code of a module refers to has its place in it.
-        Err(Failure::Fault(asm8080::Fault::UnboundLabel)) => Err(Failure::Memory),
+        // Each label of the code is bound.
+        Err(Failure::Fault(asm8080::Fault::UnboundLabel)) => unreachable!(),
         Err(Failure::Memory) => Err(Failure::Memory),
     }
 }

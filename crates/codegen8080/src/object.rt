@@ -4,7 +4,7 @@ ghost use Rattle.std.specs.Prelude.{IfOk};
 ghost use Rattle.codegen8080.specs.internal.Listing.{IsMadeOf};
 ghost use Rattle.codegen8080.specs.internal.Segments.{KeepsFixes};
 
-use crate::linkage::{LinkageNames, valid};
+use crate::linkage::LinkageNames;
 use crate::segments::segment_of;
 use asm8080::CodeBytes;
 use object_modules::{ModuleParts, Name, ObjectModule};
@@ -25,7 +25,6 @@ pub(crate) fn object_of(
     requires variables { KeepsFixes variables }
     ensures { IfOk result (λ object. IsMadeOf name code variables names numbers.now start object) }
 {
-    let name = valid(name);
     let count = names.external_count();
     let code = segment_of(alloc, code, numbers, count)?;
     let variables = segment_of(alloc, variables, numbers, count)?;

@@ -186,7 +186,7 @@ pub(crate) const EXECUTE: Teaching = Teaching {
 };
 
 pub(crate) const CONVERT: Teaching = Teaching {
-    about: "Prints an old source in this language",
+    about: "Converts an old source: control lines, INCLUDE, listings",
     printed: PRINTED_BY_CONVERT,
 };
 
@@ -600,7 +600,7 @@ With --lines it also writes TABLE, which tells of each line that is printed, in 
 the line from which it comes (plm --explain=TABLE looks a fault's line up in it):
   NAME LINE
 
-What has no cure is left, and told on standard error, a line each:
+What it knows and can't cure is left, and told on standard error, a line each:
   FILE LINE: what, and what to write
 
 Exit status:

@@ -8,8 +8,8 @@ use words::{Kind, Mark, ReservedWord, Word};
 /// What is likely wrong.
 #[derive(Clone, Copy)]
 pub(crate) enum Hint {
-    /// The word of this line that comes before is not followed by a semicolon.
-    NoSemicolon { line: u32 },
+    /// The word of this line that comes before is not followed by what may have to come between.
+    Missing { what: &'static str, line: u32 },
     /// A name stands after the END of a DO, which begins on this line.
     NamedGroup { line: u32 },
     /// What this sentence says.
@@ -68,6 +68,19 @@ fn lacks_semicolon(before: &Word, word: &Word) -> bool {
     before.line < word.line && may_end && may_begin
 }
 
+// Whether an IF of words has no THEN yet.
+fn awaits_then(words: &[Word]) -> bool {
+    let mut is_awaited = false;
+    for word in words {
+        match word.kind {
+            Kind::Reserved(ReservedWord::If) => is_awaited = true,
+            Kind::Reserved(ReservedWord::Then) | Kind::Mark(Mark::Semicolon) => is_awaited = false,
+            _ => {}
+        }
+    }
+    is_awaited
+}
+
 // What is likely wrong at a word that may stand elsewhere, by itself and the word before it.
 fn hint_of_pair(before: &Word, word: &Word, open: &[Opener]) -> Option<Hint> {
     match (before.kind, word.kind) {
@@ -122,7 +135,14 @@ pub(crate) fn hint_at(before: &[Word], word: &Word, open: &[Opener]) -> Option<H
                 "The module has ended before: an END may be superfluous, or this is no part of it",
             )))
         }
-        [.., last] if lacks_semicolon(last, word) => Some(Hint::NoSemicolon { line: last.line }),
+        [.., last] if lacks_semicolon(last, word) => Some(Hint::Missing {
+            what: if awaits_then(before) {
+                "THEN"
+            } else {
+                "A semicolon"
+            },
+            line: last.line,
+        }),
         [.., last] => hint_of_pair(last, word, open).or(hint_of_word(last, word)),
     }
 }
@@ -131,8 +151,9 @@ impl Hint {
     /// Adds it as a sentence.
     pub(crate) fn add(self, page: &mut Page) {
         match self {
-            Hint::NoSemicolon { line } => page.sentence(&[
-                Piece::Text("A semicolon may be missing at the end of line "),
+            Hint::Missing { what, line } => page.sentence(&[
+                Piece::Text(what),
+                Piece::Text(" may be missing at the end of line "),
                 Piece::Number(line),
             ]),
             Hint::NamedGroup { line } => page.sentence(&[

@@ -153,7 +153,7 @@ fn explain_word(page: &mut Page, refused: &Refused) {
         }
         None => None,
     };
-    if let Some(Hint::NoSemicolon { line }) = hint {
+    if let Some(Hint::Missing { line, .. }) = hint {
         show_line(page, refused.text, line);
     }
     refused.show(page, refused.told.meaning);
@@ -275,13 +275,17 @@ fn explain_typing(page: &mut Page, refused: &Refused, fault: &typing::Fault) {
 fn hint_of_byte(byte: u8) -> Option<&'static str> {
     match byte {
         b'$' => Some(
-            "Control lines are left out: delete it; of $INCLUDE, put the text of the file in its place",
+            "Control lines are left out: plm convert takes them out, and puts in the file of $INCLUDE; of a listing, add --listing",
         ),
-        0 | 26 => Some("^Z and zeros come from the end of a file of CP/M: delete them"),
-        12 => Some("A form feed: delete it"),
+        0 | 26 => Some(
+            "^Z and zeros come from the end of a file of CP/M: delete them, or use plm convert",
+        ),
+        12 => Some("A form feed: delete it, or use plm convert"),
         b'_' => Some("A name may have $, and no _"),
         b'"' => Some("A string stands between single quotes"),
-        b'\'' => Some("A string ends on the line on which it begins"),
+        b'\'' => Some(
+            "A string ends on its line, and has only printed characters of ASCII: no tab",
+        ),
         b'/' => Some("A comment has only printed characters of ASCII, tabs and line ends"),
         _ => None,
     }

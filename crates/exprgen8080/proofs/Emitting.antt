@@ -34,6 +34,25 @@ pub none_noted : (tree : TreeModule) (before after : Emission) (list : List Item
 none_noted tree before after list same = λ routine given.
     inl (ap (λ flags. has_routine flags.items routine) (sym same) ∙ given)
 
+-- a step that changes facts alone has no items
+pub facts_alone_change : (tree : TreeModule) (before : Emission) (known : Facts) (step here : Step)
+    → step ≡ here
+    → step_items tree before.facts here ≡ []
+    → known ≡ after_step before.facts here
+    → AddsItems before (record before { facts = known }) (step_items tree before.facts step)
+    (after_step before.facts step)
+facts_alone_change tree before known step here same none is =
+    subst
+    (λ (one : Step). AddsItems before (record before { facts = known }) (step_items tree before.facts one)
+    (after_step before.facts one))
+    (sym same)
+    (record {
+      writes = subst (Writes before.writer before.writer) (sym none) (writes_nothing before.writer);
+      facts = is;
+      called = has_itself before.is_called.items;
+      steps = refl;
+    })
+
 -- a call of a procedure that is not there has no items
 pub no_call_added : (tree : TreeModule) (procedure : ℕ) (before after : Emission)
     → length tree.procedures.items ≤ procedure

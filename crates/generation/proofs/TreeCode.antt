@@ -6,8 +6,10 @@ use Rattle.layout.specs.{Storage.{Storage}, Sound.{IsSoundlyTyped}}
 use Rattle.treecode.specs.{internal.Homes.{parameter_at}, declared.procedure.Parameter.{Parameter}}
 use Rattle.frames.specs.internal.Charges.{IsChargedAs}
 use Rattle.frames.proofs.{Frames.{parameter_count}, Parameters.{has_parameters}}
+use Rattle.codegen8080.specs.internal.Sources.{IsOfModule}
+use Rattle.measure_laws.proofs.Labels.Placing.{labels_have_places}
 use Rattle.generation.specs.internal.TreeCode.{KeepsModule}
-use Rattle.generation.proofs.{Contract.{code_does}, Counting.{tree_bound_is}}
+use Rattle.generation.proofs.{Bounding.{sound_for_bounds}, Contract.{code_does}, Counting.{tree_bound_is}}
 
 module _
     (typed : TypedModule) (storage : Storage) (tree : TreeModule)
@@ -64,3 +66,18 @@ pub keeps_result :
     → IfOk result (KeepsModule typed storage)
 keeps_result typed storage result lowered =
     IfOk-weaker result _ _ (λ tree is. keeps_module typed storage tree is) lowered
+
+-- it is of the module that it is lowered from
+pub source_result :
+    {E : Type 0} (typed : TypedModule) (storage : Storage) (result : Result TreeModule E)
+    → IsSoundlyTyped typed
+    → IfOk result (IsLowered typed storage)
+    → IfOk result IsOfModule
+source_result typed storage result sound lowered =
+    IfOk-weaker result _ _ (λ tree is. record {
+      typed = typed;
+      storage = storage;
+      jumps = sound.jumps;
+      lowered = is;
+      placed = labels_have_places typed storage tree (sound_for_bounds typed sound) is;
+    }) lowered

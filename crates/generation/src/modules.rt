@@ -47,8 +47,5 @@ pub fn generate(alloc: Global, tree: &TreeModule) -> Result<ObjectModule, Failur
     ensures past { IfFault result (λ fault. IsPastBound tree.now fault) }
     ensures not_made { IfFault result (λ fault. MakesNone tree.now fault) }
 {
-    // A look at its name says that an object module is valid.
-    let object = codegen8080::generate(alloc, tree)?;
-    let _ = object.name();
-    Ok(object)
+    codegen8080::generate(alloc, tree)
 }

@@ -86,8 +86,6 @@ fn absolute_of(alloc: Global, object: &ObjectModule, plan: &Plan) -> Result<Abso
     ensures placed { IfOk result (λ absolute. IsPlaced (plan_view plan.now) object.now absolute) }
     ensures gives { IfOk result (λ absolute. GivesItsImage (plan_view plan.now) object.now absolute) }
 {
-    // A look at its name says that the module is valid, so that its bytes are below 256.
-    let _ = object.name();
     let pieces = image(alloc, object, plan)?;
     let symbols = symbols_of(alloc, object.publics(), plan)?;
     let start = object.start().unwrap_or(0).wrapping_add(plan.code);

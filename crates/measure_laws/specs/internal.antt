@@ -11,4 +11,3 @@ pub mod Steps
 pub mod ItemLabels
 pub mod Plans
 pub mod Fits
-pub mod Modules

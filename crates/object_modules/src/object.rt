@@ -97,9 +97,10 @@ impl ObjectModule {
         }
     }
 
-    /// The offset in its code where it starts, 0 to 65535, if it is a main module.
+    /// The offset in its code where it starts, 0 to 65535, if it is a main module. The module is valid.
     pub fn start(&self) -> Option<u16>
-        ensures { result ≡ self.now.start }
+        ensures start { result ≡ self.now.start }
+        ensures object { IsObjectModule self.now }
     {
         self.parts.start
     }

@@ -1,5 +1,7 @@
 -- Items with the code's numbers for labels and names: numbers that were given before stay.
-use Rattle.steps8080.proofs.Prelude.{◌≡◌, ℕ, zero, suc, ◌+◌, ◌<◌, ◌==◌, ◌⊎◌, inl, inr, Bool, true, false, ◌||◌, List, [], ◌∷◌, ◌++◌, length, min, replicate, set, arith, refl, ap, sym, subst, ◌∙◌, append_assoc, append-nil, Option, Some, None, option_map, unwrap_or, eq-eqb, list_any-append, InSegment, External, Item, Plain, WithWord, Byte, Address, Gap, Mark, Reference, AtLabel, AtTarget, AtNumber, Assembly, BoundOnce, is_bound, marks, AreWritable, KeepsMarks, MarksOnly, NumbersNames, Written, Writes, in_front, is_marked, numbered, numbered_item, numbered_reference, use_name, uses_name}
+use Rattle.steps8080.proofs.Prelude.{◌≡◌, ℕ, zero, suc, ◌+◌, ◌<◌, ◌==◌, ◌⊎◌, inl, inr, Bool, true, false, ◌||◌, List, [], ◌∷◌, ◌++◌, length, min, replicate, set, arith, refl, ap, sym, subst, ◌∙◌, append_assoc, append-nil, Option, Some, None, option_map, unwrap_or, cases_lt, eq-eqb, list_any-append, InSegment, External, Item, Plain, WithWord, Byte, Address, Gap, Mark, Reference, AtLabel, AtTarget, AtNumber, Assembly, BoundOnce, is_bound, marks, AreWritable, CountsNamed, CountsOne, KeepsMarks, MarksOnly, NumbersNames, Written, Writes, in_front, is_marked, jump_item, name_label, names_label, numbered, numbered_item, numbered_reference, use_name, uses_name}
+use Rattle.asm8080.specs.declared.item.WordForm.{WordForm}
+use Rattle.steps8080.specs.declared.step.LabelNumber.{LabelNumber}
 use Rattle.steps8080.specs.internal.Externals.{AddsOnly, AreDifferent, Extends, IsNumbering, entries, entry}
 
 -- a value that is found stays found
@@ -374,6 +376,46 @@ marks_same : (before after : List Bool) (items : List Item) → after ≡ before
 marks_same before after items same =
     λ label given. inl (ap (λ table. is_marked table label) (sym same) ∙ given)
 
+-- if one of two lists of items names a label, both together do
+name_either : (number : ℕ) (items later : List Item)
+    → (name_label number items ≡ true) ⊎ (name_label number later ≡ true)
+    → name_label number (items ++ later) ≡ true
+name_either number items later found =
+    list_any-append (names_label number) items later
+    ∙ either_true (name_label number items) (name_label number later) found
+
+-- labels of code that items one after another name
+counts_then : (before between after : Written) (items later : List Item)
+    → CountsNamed before between items
+    → CountsNamed between after later
+    → Extends between.labels after.labels
+    → CountsNamed before after (items ++ later)
+counts_then before between after items later first second labels = λ label low.
+    elim (second label low) [
+      | inl known ↦ elim (first label known) [
+        | inl old ↦ inl old
+        | inr named ↦ inr
+            (named.0, labels named.0 label named.1, name_either named.0 items later (inl named.2))
+      ]
+      | inr named ↦ inr (named.0, named.1, name_either named.0 items later (inr named.2))
+    ]
+
+-- no label more
+counts_none : (before after : Written) (items : List Item) → after.code.labels ≡ before.code.labels
+    → CountsNamed before after items
+counts_none before after items same = λ label low. inl (omega (arith, low, same))
+
+-- the label of a number that an item names
+counts_item : (number : ℕ) (before after : Written) (items : List Item)
+    → CountsOne number before after
+    → name_label number items ≡ true
+    → CountsNamed before after items
+counts_item number before after items counted named = λ label low.
+    elim (counted label low) [
+      | inl old ↦ inl old
+      | inr is ↦ inr (number, is, named)
+    ]
+
 -- nothing is added
 pub writes_nothing : (written : Written) → Writes written written []
 writes_nothing written = record {
@@ -381,6 +423,7 @@ writes_nothing written = record {
   added = sym (append-nil written.code.items);
   same = λ are. refl;
   labels = λ number found given. given;
+  counted = λ label low. inl low;
   marked = λ label given. inl given;
   externals = λ number found given. given;
   names = λ name number given. inl given;
@@ -405,6 +448,7 @@ writes_then before between after items later first second = record {
       (first.same (writable_first before items later are)))
       (second.same (writable_later before between items later are first.marked));
   labels = λ number found given. second.labels number found (first.labels number found given);
+  counted = counts_then before between after items later first.counted second.counted second.labels;
   marked = marks_then before.marked between.marked after.marked items later first.marked second.marked;
   externals = λ number found given. second.externals number found (first.externals number found given);
   names =
@@ -418,18 +462,20 @@ pub writes_one :
     → inside ≡ before
     → after.code.items ≡ inside.code.items ++ made ∷ []
     → Extends inside.labels after.labels
+    → CountsNamed inside after (item ∷ [])
     → MarksOnly inside.marked after.marked (item ∷ [])
     → Extends inside.externals after.externals
     → NumbersNames inside.externals after.externals (item ∷ [])
     → length after.externals ≡ length inside.externals
     → numbered_item after item ≡ Some made
     → Writes before after (item ∷ [])
-writes_one inside before after item made same added labels marked externals names count named =
+writes_one inside before after item made same added labels counted marked externals names count named =
     subst (λ old. Writes old after (item ∷ [])) same (record {
       made = made ∷ [];
       added = added;
       same = λ are. ap (λ front. in_front front (Some [])) named;
       labels = labels;
+      counted = counted;
       marked = marked;
       externals = externals;
       names = names;
@@ -450,6 +496,7 @@ writes_known inside before after item made same added labels marked externals na
     writes_one inside before after item made same
     (ap (λ (code : Assembly). code.items) added)
     (λ number found given. ap (λ table. entry table number) labels ∙ given)
+    (counts_none inside after (item ∷ []) (ap (λ (code : Assembly). code.labels) added))
     (marks_same inside.marked after.marked (item ∷ []) marked)
     (λ number found given. ap (λ table. entry table number) externals ∙ given)
     (names_same inside.externals after.externals (item ∷ []) externals)
@@ -473,33 +520,78 @@ writes_named inside before after item made name same added labels marked externa
     writes_one inside before after item made same
     (ap (λ (code : Assembly). code.items) added)
     (λ number found given. ap (λ table. entry table number) labels ∙ given)
+    (counts_none inside after (item ∷ []) (ap (λ (code : Assembly). code.labels) added))
     (marks_same inside.marked after.marked (item ∷ []) marked)
     externals
     (name_used name inside.externals after.externals (item ∷ []) only used)
     count
     named
 
--- a label gets its place
-pub writes_mark :
-    (inside before after : Written) (number label : ℕ)
-    → inside ≡ before
-    → after.code.items ≡ inside.code.items ++ Mark label ∷ []
-    → Extends inside.labels after.labels
-    → ((other : ℕ) → is_marked after.marked other ≡ true
-    → (is_marked inside.marked other ≡ true) ⊎ (other ≡ number))
-    → after.externals ≡ inside.externals
-    → entry after.labels number ≡ Some label
-    → Writes before after (Mark number ∷ [])
-writes_mark inside before after number label same added labels marked externals found =
-    writes_one inside before after (Mark number) (Mark label) same added labels
-    (λ other given. elim (marked other given) [
-      | inl old ↦ inl old
-      | inr is ↦ inr (ap (λ (one : ℕ). is_bound one (Mark number ∷ [])) is ∙ is_itself number)
-    ])
-    (λ name found given. ap (λ table. entry table name) externals ∙ given)
-    (names_same inside.externals after.externals (Mark number ∷ []) externals)
+-- a jump to a label, or another instruction with its place, once the label has its number
+pub writes_jump :
+    (before between inside : Written) (code : Assembly) (form : WordForm) (number : LabelNumber) (label : ℕ)
+    → inside ≡ between
+    → between.code.items ≡ before.code.items
+    → Extends before.labels between.labels
+    → CountsOne number.index before between
+    → KeepsMarks before.marked between.marked
+    → between.externals ≡ before.externals
+    → entry between.labels number.index ≡ Some label
+    → code ≡ record (inside.code) { items = inside.code.items ++ WithWord form (AtLabel label) ∷ [] }
+    → Writes before (record inside { code = code }) (jump_item form number ∷ [])
+writes_jump before between inside code form number label is items labels counted marked externals found more =
+    subst (λ (made : Assembly). Writes before (record inside { code = made }) (jump_item form number ∷ []))
+    (sym more)
+    (subst (λ (old : Written). Writes before
+    (record old {
+      code = record (old.code) { items = old.code.items ++ WithWord form (AtLabel label) ∷ [] };
+    })
+    (jump_item form number ∷ []))
+    (sym is)
+    (writes_one before before _ (WithWord form (AtLabel number.index)) (WithWord form (AtLabel label)) refl
+    (ap (λ list. list ++ WithWord form (AtLabel label) ∷ []) items)
+    labels
+    (counts_item number.index before between (jump_item form number ∷ []) counted (is_itself number.index))
+    (λ other given. inl (marked other given))
+    (λ name given other. ap (λ table. entry table name) externals ∙ other)
+    (names_same before.externals between.externals (jump_item form number ∷ []) externals)
     (ap (λ table. length table) externals)
-    (ap (option_map Mark) found)
+    (ap (λ (one : Option ℕ). option_map (WithWord form) (option_map AtLabel one)) found)))
+
+-- a label gets its place, once it has its number
+pub writes_mark :
+    (before between inside : Written) (code : Assembly) (marked : List Bool) (number label : ℕ)
+    → inside ≡ between
+    → between.code.items ≡ before.code.items
+    → Extends before.labels between.labels
+    → CountsOne number before between
+    → ((other : ℕ) → is_marked marked other ≡ true → (is_marked before.marked other ≡ true) ⊎ (other ≡ number))
+    → between.externals ≡ before.externals
+    → entry between.labels number ≡ Some label
+    → code ≡ record (inside.code) { items = inside.code.items ++ Mark label ∷ [] }
+    → Writes before (record inside { code = code; marked = marked }) (Mark number ∷ [])
+writes_mark before between inside code marked number label is items labels counted marks_one externals found more =
+    subst (λ (made : Assembly). Writes before (record inside { code = made; marked = marked }) (Mark number ∷ []))
+    (sym more)
+    (subst (λ (old : Written). Writes before
+    (record old {
+      code = record (old.code) { items = old.code.items ++ Mark label ∷ [] };
+      marked = marked;
+    })
+    (Mark number ∷ []))
+    (sym is)
+    (writes_one before before _ (Mark number) (Mark label) refl
+    (ap (λ list. list ++ Mark label ∷ []) items)
+    labels
+    (counts_item number before between (Mark number ∷ []) counted (is_itself number))
+    (λ other given. elim (marks_one other given) [
+      | inl old ↦ inl old
+      | inr same ↦ inr (ap (λ (one : ℕ). is_bound one (Mark number ∷ [])) same ∙ is_itself number)
+    ])
+    (λ name given other. ap (λ table. entry table name) externals ∙ other)
+    (names_same before.externals between.externals (Mark number ∷ []) externals)
+    (ap (λ table. length table) externals)
+    (ap (option_map Mark) found)))
 
 -- a label that has its place gets none
 pub writes_no_mark :
@@ -507,17 +599,19 @@ pub writes_no_mark :
     → inside ≡ before
     → after.code.items ≡ inside.code.items
     → Extends inside.labels after.labels
+    → CountsOne number inside after
     → KeepsMarks inside.marked after.marked
     → after.externals ≡ inside.externals
     → is_marked after.marked number ≡ true
     → Writes before after (Mark number ∷ [])
-writes_no_mark inside before after number same added labels marked externals has =
+writes_no_mark inside before after number same added labels counted marked externals has =
     subst (λ old. Writes old after (Mark number ∷ [])) same (record {
       made = [];
       added = added ∙ sym (append-nil inside.code.items);
       same = λ are. absurd (not_both (is_marked inside.marked number) (marked number has)
           (are.new number (is_itself number)));
       labels = labels;
+      counted = counts_item number inside after (Mark number ∷ []) counted (is_itself number);
       marked = λ other given. inl (marked other given);
       externals = λ name found given. ap (λ table. entry table name) externals ∙ given;
       names = names_same inside.externals after.externals (Mark number ∷ []) externals;

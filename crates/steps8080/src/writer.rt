@@ -10,7 +10,7 @@ ghost use Rattle.asm8080.specs.Assembled.{IsFinished};
 ghost use Rattle.asm8080.specs.Items.{size_of_items};
 ghost use Rattle.steps8080.specs.internal.Externals.{Extends, entry};
 ghost use Rattle.steps8080.specs.internal.Instructions.{high, low};
-ghost use Rattle.steps8080.specs.internal.Writer.{Finishes, KeepsMarks, Writes, WritesRoutine, address_items, external_call_item, jump_item, place_of_known, stack_end_item, word_item};
+ghost use Rattle.steps8080.specs.internal.Writer.{CountsOne, Finishes, KeepsMarks, Writes, WritesRoutine, address_items, external_call_item, jump_item, place_of_known, stack_end_item, word_item};
 
 use crate::externals::Externals;
 use crate::step::LabelNumber;
@@ -240,6 +240,7 @@ impl Writer {
         ensures found { IfOk result (λ label. entry self.new.labels number.index ≡ Some label) }
         ensures items { OnOk result (self.new.code.items ≡ self.old.code.items) }
         ensures labels { OnOk result (Extends self.old.labels self.new.labels) }
+        ensures counted { OnOk result (CountsOne number.index self.old self.new) }
         ensures marked { OnOk result (KeepsMarks self.old.marked self.new.marked) }
         ensures externals { OnOk result (self.new.externals ≡ self.old.externals) }
     {
@@ -313,8 +314,6 @@ impl Writer {
             is_marked: _,
             externals,
         } = self;
-        // A look at the count says that the code is valid.
-        let _ = code.label_count();
         match code.finish() {
             Ok(bytes) => Ok((Finished { bytes, labels }, externals)),
             Err(Failure::Fault(fault)) => Err(Failure::Fault(fault)),

@@ -1,12 +1,14 @@
 -- Programs of sources that are compiled.
-use Rattle.tool.proofs.Prelude.{◌≡◌, ℕ, zero, suc, ◌<◌, ◌≤◌, ◌⊎◌, inl, inr, List, [], ◌∷◌, length, map, Some, None, All, arith, refl, sym, ap, ◌∙◌, subst, ⊎_elim, cases_lt, All-cons, All-from_recursion, All-nil, AllByRecursion, AllZip, TypedModule, Typed, JumpsAreSound, module_view, Layout, IsJoined, IsLawful, IsSoundlyTyped, Placement, placement_by, placing_refusal, storage_with, layout_view, IsObjectModule, ObjectModule, length_of, Plan, HaveStorage, ReadFault, HasReadCause, Absolute, files_give_the_image, KeepsContract, AreSoundlyMade, make_the_program, numbers_fit, HaveImage, Placed, AreSourcesOf, IsPlacedBy, IsProgramOf, program_modules, text_of, Compiled, ToolFault, TooManySources, Source, Code, Program, Link, Locate, DoesWhatItSays, EndsWithItsMemory, IsImageOfFiles, IsImageOfObjects, StartsAsItsSource, code_lengths, GivesImageOfObjects, AreWithoutFault, HasCause, IsInOrder, IsWithoutFault, sources_before, AreCompiled, HasBuildCause, IsBuiltFrom, module_in}
+use Rattle.tool.proofs.Prelude.{◌≡◌, ℕ, zero, suc, ◌<◌, ◌≤◌, ◌⊎◌, inl, inr, List, [], ◌∷◌, length, map, Some, None, Result, Ok, Err, All, arith, refl, sym, ap, ◌∙◌, subst, ⊎_elim, cases_lt, All-cons, All-from_recursion, All-nil, AllByRecursion, AllZip, TypedModule, Typed, JumpsAreSound, module_view, Layout, IsJoined, IsLawful, IsSoundlyTyped, Placement, placement_by, placing_refusal, storage_with, layout_view, IsObjectModule, ObjectModule, length_of, Plan, HaveStorage, ReadFault, HasReadCause, Absolute, files_give_the_image, KeepsContract, AreSoundlyMade, make_the_program, numbers_fit, HaveImage, Placed, AreSourcesOf, IsPlacedBy, IsProgramOf, program_modules, text_of, Compiled, ToolFault, TooManySources, Source, Code, Program, Link, Locate, DoesWhatItSays, EndsWithItsMemory, IsImageOfFiles, IsImageOfObjects, StartsAsItsSource, code_lengths, GivesImageOfObjects, AreWithoutFault, HasCause, IsInOrder, IsWithoutFault, sources_before, AreCompiled, HasBuildCause, IsBuiltFrom, module_in}
+use Rattle.std.specs.Prelude.{IfOk}
+use Rattle.failure.specs.{Failure.{IfFault}, declared.Failure.{Failure, TheVariants.{Fault, Memory}}}
 use Rattle.words.specs.declared.limits.TheConstants.{LONGEST_SOURCE}
 use Rattle.object_modules.specs.declared.segment.Segment.TheVariants as segments
 use Rattle.locate.specs.Locating as of_locating
 use Rattle.placing.specs.Views as of_placement
 use Rattle.sources.specs.declared.read.ReadFault.TheVariants as read_faults
 use Rattle.sources.specs.declared.fault.ProgramFault.TheVariants as program_faults
-use Rattle.tool.specs.{Construction.{Construction, IsTyped}, Refusals.{IsRefusal}, internal.Inside.{IsMadeConstruction, construction_with}}
+use Rattle.tool.specs.{Construction.{Construction, IsTyped}, Refusals.{IsRefusal, IsRefusedBy}, internal.Inside.{IsMadeConstruction, construction_with}}
 use Rattle.tool.proofs.Headline.{declared_bytes_start, does_what_it_says, ends_with_its_memory}
 
 length_mapped : {A B : Type 0} (f : A → B) (items : List A) → length (map f items) ≡ length items
@@ -307,7 +309,7 @@ at_readable other texts file long short before =
     (cases_lt file other))
     (cases_lt other file)
 
-pub refused_by : (fault : ToolFault) (texts : List (List ℕ)) (plan : Plan) (file : ℕ) → file < length texts
+refused_by : (fault : ToolFault) (texts : List (List ℕ)) (plan : Plan) (file : ℕ) → file < length texts
     → LONGEST_SOURCE < length (text_of texts file) → HasCause fault texts plan
     → AreWithoutFault (sources_before fault (length texts)) texts → IsRefusal file fault
 refused_by TooManySources texts plan file below long cause before = tt
@@ -330,7 +332,13 @@ short_source (text ∷ texts) (first ∷ others) zero are below long =
 short_source (text ∷ texts) (first ∷ others) (suc file) are below long =
     short_source texts others file are.1 (omega (arith, below)) long
 
--- there is no program of a source that is too long
-pub no_program : (texts : List (List ℕ)) (modules : List TypedModule) (file : ℕ) → IsProgramOf texts modules
-    → file < length texts → LONGEST_SOURCE < length (text_of texts file) → ⊥
-no_program texts modules file is below long = short_source texts modules file is.sources below long
+-- sources of which one is too long are refused for it, or memory runs out
+pub too_long : (result : Result Construction (Failure ToolFault)) (texts : List (List ℕ)) (plan : Plan) (file : ℕ)
+    → IfOk result (λ built. IsProgramOf texts (program_modules built.program))
+    → IfFault result (λ fault. HasCause fault texts plan) → IfFault result (λ fault. IsInOrder fault texts)
+    → file < length texts → LONGEST_SOURCE < length (text_of texts file) → IsRefusedBy file result
+too_long (Ok built) texts plan file is cause before below long =
+    absurd (short_source texts (program_modules built.program) file is.sources below long)
+too_long (Err (Fault fault)) texts plan file is cause before below long =
+    refused_by fault texts plan file below long cause before
+too_long (Err Memory) texts plan file is cause before below long = tt

@@ -25,7 +25,6 @@ use sources::{MOST_SOURCES, Source, place_program};
 use std::alloc::Global;
 
 /// Reads the sources, makes their object modules, joins and places the program as planned, and makes its image.
-#[tactic(auto, using(crate::proofs::SourcesLemmas::refused_by, crate::proofs::SourcesLemmas::no_program))]
 pub fn build(alloc: Global, sources: &[Source], plan: &Plan) -> Result<Built, Failure<ToolFault>>
     ensures program { IfOk result
         (λ built. IsProgramOf (texts_of sources.now) (program_modules built.program)) }
@@ -44,9 +43,7 @@ pub fn build(alloc: Global, sources: &[Source], plan: &Plan) -> Result<Built, Fa
     if sources.len() > MOST_SOURCES {
         return Err(Failure::Fault(ToolFault::TooManySources));
     }
-    let built = build_few(alloc, sources, plan)?;
-    let _ = built.image();
-    Ok(built)
+    build_few(alloc, sources, plan)
 }
 
 // Builds the program of at most as many sources as there may be.

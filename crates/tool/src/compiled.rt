@@ -2,7 +2,6 @@
 
 ghost use Rattle.std.specs.Prelude.{◌≡◌, ◌∷◌, ◌++◌, [], length, map, IfOk, OnOk};
 ghost use Rattle.failure.specs.Failure.{IfFault};
-ghost use Rattle.typed_trees.specs.Jumps.{JumpsAreSound};
 ghost use Rattle.typed_trees.specs.Views.{module_view};
 ghost use Rattle.layout.specs.Storage.{storage_with};
 ghost use Rattle.layout.specs.Views.{layout_view};
@@ -66,7 +65,6 @@ fn read(alloc: Global, file: usize, text: &[u8]) -> Result<SourceModule, Failure
     ensures names { IfOk result (λ read. GlobalNamesDiffer (module_view read.typed)) }
     ensures storage { IfOk result
         (λ read. layout_view read.storage ≡ storage_with (module_view read.typed)) }
-    ensures jumps { IfOk result (λ read. JumpsAreSound (module_view read.typed)) }
     ensures refused { IfFault result (HasSourceCause file text.now) }
 {
     match read_source(alloc, text) {
@@ -85,7 +83,6 @@ fn object_of(
     requires source { HasSource (module_view source.now.typed) }
     requires sound { IsSoundlyTyped (module_view source.now.typed) }
     requires names { GlobalNamesDiffer (module_view source.now.typed) }
-    requires jumps { JumpsAreSound (module_view source.now.typed) }
     requires storage { layout_view source.now.storage ≡ storage_with (module_view source.now.typed) }
     ensures made { IfOk result (IsSoundlyMade (module_view source.now.typed)) }
     ensures refused { IfFault result (HasGenerationCause file (module_view source.now.typed)) }

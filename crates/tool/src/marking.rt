@@ -1,9 +1,9 @@
 //! Where the code of a source comes from.
 
 ghost use Rattle.std.specs.Prelude.{IfOk};
-ghost use Rattle.typed_trees.specs.Jumps.{JumpsAreSound};
 ghost use Rattle.typed_trees.specs.Views.{module_view};
 ghost use Rattle.sources.specs.Reading.{IsSource};
+ghost use Rattle.sources.specs.Sound.{IsSoundlyTyped};
 
 use codegen8080::{CodePart, Mark, code_marks};
 use failure::Failure;
@@ -66,7 +66,7 @@ fn with_lines(
 
 // Where the parts of the code of a module that was read begin.
 fn places_of(alloc: Global, source: &SourceModule) -> Result<Vec<Mark>, AllocError>
-    requires { JumpsAreSound (module_view source.now.typed) }
+    requires { IsSoundlyTyped (module_view source.now.typed) }
 {
     let tree = lower(alloc, &source.typed, &source.storage)?;
     let places = code_marks(alloc, &tree);
@@ -82,7 +82,7 @@ fn places_of(alloc: Global, source: &SourceModule) -> Result<Vec<Mark>, AllocErr
 // A source that is read.
 fn read(alloc: Global, text: &[u8]) -> Result<SourceModule, AllocError>
     requires source { IsSource text.now }
-    ensures { IfOk result (λ read. JumpsAreSound (module_view read.typed)) }
+    ensures { IfOk result (λ read. IsSoundlyTyped (module_view read.typed)) }
 {
     match read_source(alloc, text) {
         Ok(source) => Ok(source),

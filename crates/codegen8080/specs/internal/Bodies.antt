@@ -1,5 +1,5 @@
 -- Relations for the parts of a module's code that are added.
-use Rattle.std.specs.Prelude.{◌≡◌, ◌⊎◌, ℕ, Bool, true, false, List, [], ◌∷◌, ◌++◌, length, None, slice_index_or}
+use Rattle.std.specs.Prelude.{◌≡◌, ◌<◌, ◌⊎◌, ℕ, Bool, true, false, List, [], ◌∷◌, ◌++◌, length, None, slice_index_or}
 use Rattle.asm8080.specs.declared.item.Item.{Item}
 use Rattle.runtime8080.specs.declared.routine.Routine.{Routine}
 use Rattle.runtime8080.specs.declared.routine.Routine.TheVariants as names
@@ -14,6 +14,7 @@ use Rattle.statements8080.specs.declared.body.Body.{Body}
 use Rattle.codegen8080.specs.declared.generator.Generator.{Generator}
 use Rattle.codegen8080.specs.declared.meeting.Here.{Here}
 use Rattle.codegen8080.specs.internal.Driven.{AddsCode, here_of}
+use Rattle.codegen8080.specs.internal.ItemLabels.{ItemsBind}
 use Rattle.codegen8080.specs.internal.Labelled.{LabelledSteps}
 use Rattle.codegen8080.specs.internal.Modules.{AreCodeOf, AreProceduresLabelled, AreRoutines, IsCodeLabelled, IsCodeOf, IsCodeOfMain, IsCodeOfMainLabelled, IsEndCode, IsEndLabelled, IsMainCode, IsMainLabelled, IsOwnCode, IsOwnLabelled, IsProcedureCode, IsProcedureLabelled, has_main}
 use Rattle.codegen8080.specs.internal.Procedures.{entry_labels, entry_steps}
@@ -142,12 +143,15 @@ AreFree tree marked (routine ∷ others) =
     × (IsLabelOf tree others (module_label_of_routine tree routine).index → ⊥)
     × AreFree tree marked others
 
--- those of these routines that are called are added
+-- those of these routines that are called are added; they bind each label that the code gets by that
 pub record AddsRoutines
     (tree : TreeModule) (called : List Bool) (routines : List Routine) (before after : Written) : Type 0 where
   pub list : List Item
   pub added : after.code.items ≡ before.code.items ++ list
   pub are : AreFree tree before.marked routines → AreRoutines tree called after routines list
+  pub counted :
+      AreFree tree before.marked routines
+      → (label : ℕ) → label < after.code.labels → (label < before.code.labels) ⊎ ItemsBind label list
   pub marked :
       (label : ℕ) → is_marked after.marked label ≡ true
       → (is_marked before.marked label ≡ true) ⊎ IsLabelOf tree routines label

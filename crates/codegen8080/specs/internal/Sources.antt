@@ -4,10 +4,13 @@ use Rattle.typed_trees.specs.Jumps.{JumpsAreSound}
 use Rattle.typed_trees.specs.TypedTrees.{TypedModule}
 use Rattle.treecode.specs.declared.module.TreeModule.{TreeModule}
 use Rattle.treecode.specs.internal.Lowered.{IsLowered}
+use Rattle.codegen8080.specs.internal.ItemLabels.{PlacesLabels}
 
--- Tree code of a module with sound jumps: each label of the source stands once.
+-- Tree code of a module with sound jumps: each label of the source stands once, and each label that code goes to has its
+-- place.
 pub record IsOfModule (tree : TreeModule) : Type 0 where
   pub typed : TypedModule
   pub storage : Storage
   pub jumps : JumpsAreSound typed
   pub lowered : IsLowered typed storage tree
+  pub placed : PlacesLabels tree

@@ -1,13 +1,16 @@
 //! What is printed of the numbers of faults of the modules of a program together, of their places, and of files and options. `tools/faults --write` makes it of docs/faults.md.
 
 /// The pages, with form feeds between them. Each begins with its number, on a line of its own.
-pub const PROGRAMS: [u8; 7594] = *b"\
+pub const PROGRAMS: [u8; 7854] = *b"\
 J1
 
 An EXTERNAL name that no module has as PUBLIC, used or not. \"Where\" is the name.
 Usually a module was not named on the command line, or PUBLIC was forgotten. The
-system calls of a program for CP/M or ISIS (`MON1`, `READ`, `WRITE`) need a
-module of your own that provides them.
+system calls of an old program are PUBLIC in modules that are there: those of
+CP/M, such as `MON1`, in `examples/cpm/bdos.plm` for the console, and with those
+for files in `examples/cpm/files.plm`; those of ISIS, such as `READ` and
+`WRITE`, in `examples/isis/isis.plm`. Name one of these too. An object that is
+to run under CP/M itself is linked with `examples/cpm/cpm.obj`.
 
 wrong.plm:
 

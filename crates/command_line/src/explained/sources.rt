@@ -1,7 +1,7 @@
 //! What is printed of the numbers of faults of a source, and of its code. `tools/faults --write` makes it of docs/faults.md.
 
 /// The pages, with form feeds between them. Each begins with its number, on a line of its own.
-pub const SOURCES: [u8; 17576] = *b"\
+pub const SOURCES: [u8; 18040] = *b"\
 C1
 
 A character that is not allowed there, or a string that is not closed on its
@@ -15,24 +15,28 @@ In old sources it is the most common fault of all:
 
 You have                                      Write
 --------------------------------------------  ----------------------------------
-control lines: `$TITLE('..')`,                nothing: delete them
-  `$PAGEWIDTH(80)`, `$OBJECT(..)`
-`$INCLUDE (TEXT.LIT)`                         the text of that file, in its
-                                                place
-form feeds (0CH) between pages, ^Z (1AH) and  nothing: delete them
-  zeros at the end of a file from CP/M
+control lines: `$TITLE('..')`,                nothing: `plm convert` empties
+  `$PAGEWIDTH(80)`, `$OBJECT(..)`               them
+`$INCLUDE (TEXT.LIT)`                         the text of that file, which
+                                                `plm convert` puts in its place
+form feeds (0CH) between pages, ^Z (1AH) and  nothing: `plm convert` takes them
+  zeros at the end of a file from CP/M          away
 a string or a text of LITERALLY that          one line, which may have any
   continues on the next line                    length
+a tab in a string                             blanks, or `'A', 9, 'B'` in a list
+                                                of values
 accented letters, curved quotes and long      ASCII characters
   dashes, even in comments
 `_` in a name, `\"` around a string, `#`,      `$` in a name, `'` around a
   `@`, `[`, `]`                                 string, and what the language
                                                 has
 
-`plm run` of an object file is also C1, and of a HEX text C3: it takes only
-sources. This command does the first and the third, and keeps the line numbers:
+`plm convert old.plm > new.plm` does the first three. With `--listing` it takes
+the source out of a listing that a compiler printed, and with `--cards` it takes
+away card numbers, in columns 73 to 80: see `docs/old-sources.md`.
 
-    tr -d '\\014\\032\\000' < old.plm | sed 's/^\\$.*//' > new.plm
+`plm run` of an object file is also C1, and of a HEX text C3: it takes only
+sources.
 
 wrong.plm:
 
@@ -159,8 +163,9 @@ one `END` too few              the last word     the END
 one `END` too many, or `EOF`   the word after    nothing
   after the module               the module's
                                  end
-a listing with numbers before  the first number  cut them off, as in
-  its lines                                        `docs/old-sources.md`
+a listing with numbers before  the first number  the source, which
+  its lines                                        `plm convert --listing` takes
+                                                   out of it
 `100H:` before the module      the number        nothing: delete it, and use
                                                    `--code 256`
 `BOOLEAN` and other words of   that word         `DECLARE BOOLEAN LITERALLY
@@ -188,6 +193,9 @@ statements without a module    the first word    `NAME: DO;` before, `END NAME;`
 `A PLUS B`, `A MINUS B`        that word         see \"Differences from Intel's
                                                    PL/M-80 V4\" in
                                                    `docs/language.md`
+
+`plm convert` mends some of these in an old source: `docs/convert.md` says
+which.
 \x0cC8
 
 Nested more than 64 levels deep. Statements in statements, parentheses in

@@ -1,6 +1,6 @@
 -- Planned steps one after another, and planned steps that depend on a test or on an optional value.
-use Rattle.measure_laws.proofs.Prelude.{◌≡◌, ℕ, ◌+◌, ◌≤◌, Bool, true, false, if◌then◌else◌, List, [], ◌∷◌, ◌++◌, Option, Some, None, refl, sym, ap, subst, ◌∙◌, append_assoc, arith, Item, size_of_items, size_in_parts, Facts, Body, Planned, Here, AreCarriedOut, ListCarriedOut, NoneCarriedOut, StatementCarriedOut, StepCarriedOut, NothingThere, BodyGround, ItemsMeasured, MayBind, MayGo, PlanMeasured, PlanBinds}
-use Rattle.measure_laws.proofs.{Footprints.Items.{bound_after, bound_first, items_both}, Heights.Rooms.{room_joined}, Labels.Binding.{plan_bound}}
+use Rattle.measure_laws.proofs.Prelude.{bound_after, bound_first, items_both, ◌≡◌, ℕ, ◌+◌, ◌≤◌, Bool, true, false, if◌then◌else◌, List, [], ◌∷◌, ◌++◌, Option, Some, None, refl, sym, ap, subst, ◌∙◌, append_assoc, arith, Item, size_of_items, size_in_parts, Facts, Body, Planned, Here, AreCarriedOut, ListCarriedOut, NoneCarriedOut, StatementCarriedOut, StepCarriedOut, NothingThere, BodyGround, ItemsMeasured, MayBind, MayGo, PlanMeasured, PlanBinds}
+use Rattle.measure_laws.proofs.{Heights.Rooms.{room_joined}, Labels.Binding.{plan_bound}}
 
 -- the code of steps with others after them
 record Parted

@@ -1,8 +1,8 @@
 -- Statements one after another.
-use Rattle.measure_laws.proofs.Prelude.{◌≡◌, ℕ, suc, ◌+◌, ◌-◌, ◌≤◌, List, [], ◌∷◌, slice_get, Option, Some, refl, sym, subst, ◌∙◌, arith, same_Some, IsNoLabel, TypedStatement, LabelStatement, TypedStatements, NoStatements, MoreStatements, TypedList, weight_of_list, weight_of_statement, weight_of_statements, Item, Range, StatementNumber, Facts, Here, AreAllCarriedOut, AreCarriedOut, IsCarriedOut, IsListCarriedOut, ListCarriedOut, ListPlanned, StatementCarriedOut, StepCarriedOut, bytes_for, spared_by, BodyGround, ItemsMeasured, ListFootprint, MayBind, PlanFootprint, StatementFootprint, NothingThere}
+use Rattle.measure_laws.proofs.Prelude.{bound_after, bound_first, ◌≡◌, ℕ, suc, ◌+◌, ◌-◌, ◌≤◌, List, [], ◌∷◌, slice_get, Option, Some, refl, sym, subst, ◌∙◌, arith, same_Some, IsNoLabel, TypedStatement, LabelStatement, TypedStatements, NoStatements, MoreStatements, TypedList, weight_of_list, weight_of_statement, weight_of_statements, Item, Range, StatementNumber, Facts, Here, AreAllCarriedOut, AreCarriedOut, IsCarriedOut, IsListCarriedOut, ListCarriedOut, ListPlanned, StatementCarriedOut, StepCarriedOut, bytes_for, spared_by, BodyGround, ItemsMeasured, ListFootprint, MayBind, PlanFootprint, StatementFootprint, NothingThere}
 use Rattle.statements8080.specs.declared.plan.Planned.TheVariants as planned
 use Rattle.codegen8080.specs.internal.Generated as generated
-use Rattle.measure_laws.proofs.{Bounds.Fitting.{items_then, items_within, none_measured}, Footprints.Items.{bound_after, bound_first}}
+use Rattle.measure_laws.proofs.Bounds.Fitting.{items_then, items_within, none_measured}
 
 -- as many statements of the table of lists as `count`, from an entry on, have their footprints
 pub data AllFit (at : BodyGround) : (first count : ℕ) → TypedStatements → Type 0 where

@@ -1,14 +1,12 @@
 -- The code of a module takes at most as many bytes as its bound, and refers only to labels that may be
 -- referred to.
-use Rattle.measure_laws.proofs.Prelude.{◌≡◌, ℕ, suc, ◌+◌, ◌*◌, ◌≤◌, Bool, true, false, List, [], ◌∷◌, ◌++◌, length, slice_get, sum_by, Some, refl, sym, ap, subst, ◌∙◌, arith, sum_by-cons, HasParameters, BodyIsSound, TypedModule, TypedProcedure, TypesHoldInList, TypesHoldInProcedure, Within, WithinMain, WithinProcedure, code_bound, constant_bytes, weight_of, weight_of_list, Storage, Code, ObjectModule, length_of, Hlt, Item, set_bytes, size_of_items, size_in_parts, places_length, set_length, Routine, size_of_routine, TreeModule, ProcedureKind, TreeProcedure, HasBody, IsList, IsLowered, IsProcedure, labels_numbered_in_list, nodes_of, has_frame, parameter_count, has_parameters, numbered_at, Written, has_routine, Body, Here, AreCodeOf, AreRoutines, IsCodeOf, IsCodeOfMain, IsCodeOfRoutine, IsCodeWritten, IsEndCode, IsGenerated, IsOwnCode, IsProcedureCode, all_routines, contents_items, has_main, with_targets, bytes_for, IsSound, Content, Place, address_items, content_items, site_of, ItemsBind, ItemsGo, Knows, BodyGround, ListFootprint, inr, holds_for_item, FRAME_LIMIT, height_of_list}
+use Rattle.measure_laws.proofs.Prelude.{bound_after, bound_first, items_both, contents_go, ◌≡◌, ℕ, suc, ◌+◌, ◌*◌, ◌≤◌, Bool, true, false, List, [], ◌∷◌, ◌++◌, length, slice_get, sum_by, Some, refl, sym, ap, subst, ◌∙◌, arith, sum_by-cons, HasParameters, BodyIsSound, TypedModule, TypedProcedure, TypesHoldInList, TypesHoldInProcedure, Within, WithinMain, WithinProcedure, code_bound, constant_bytes, weight_of, weight_of_list, Storage, Code, ObjectModule, length_of, Hlt, Item, set_bytes, size_of_items, size_in_parts, places_length, set_length, Routine, size_of_routine, TreeModule, ProcedureKind, TreeProcedure, HasBody, IsList, IsLowered, IsProcedure, labels_numbered_in_list, nodes_of, has_frame, parameter_count, has_parameters, numbered_at, Written, has_routine, Body, Here, AreCodeOf, AreRoutines, IsCodeOf, IsCodeOfMain, IsCodeOfRoutine, IsCodeWritten, IsEndCode, IsGenerated, IsOwnCode, IsProcedureCode, all_routines, contents_items, has_main, with_targets, bytes_for, IsSound, site_of, ItemsBind, ItemsGo, Knows, BodyGround, ListFootprint, inr, holds_for_item, FRAME_LIMIT, height_of_list}
 use Rattle.typed_trees.specs.Weight.{weight_of_procedure}
 use Rattle.treecode.specs.declared.procedure.ProcedureKind.TheVariants as kinds
 use Rattle.asm8080.specs.declared.item.Item.TheVariants as items
-use Rattle.treecode.specs.declared.module.Content.TheVariants as contents
-use Rattle.treecode.specs.declared.place.Place.TheVariants as places
 use Rattle.treecode_laws.proofs.Labels.{main_label_has_one_number, procedure_label_has_one_number}
 use Rattle.measure_laws.specs.internal.Footprints.{anywhere}
-use Rattle.measure_laws.proofs.{Bounds.Constants.{constants_fit}, Bounds.Entries.{entry_fits}, Bounds.Numbering.{numbered_size}, Bounds.Returns.{end_fits}, Bounds.Statements.{whole_list_fits}, Footprints.Items.{bound_after, bound_first, items_both}, Footprints.Parts.{knows_anywhere}, Heights.Modules.{frame_is_small, source_of}, Labels.Lists.{LabelsDiffer, none_around}}
+use Rattle.measure_laws.proofs.{Bounds.Constants.{constants_fit}, Bounds.Entries.{entry_fits}, Bounds.Numbering.{numbered_size}, Bounds.Returns.{end_fits}, Bounds.Statements.{whole_list_fits}, Footprints.Parts.{knows_anywhere}, Heights.Modules.{frame_is_small, source_of}, Labels.Lists.{LabelsDiffer, none_around}}
 
 -- the routines that are called
 bytes_of_routines : List Routine → ℕ
@@ -81,22 +79,6 @@ module _
         → code.body.frame.now.parameter_count ≤ 16
     few_parameters list code =
         let few = few_in_frame list code procedure.kind refl in omega (arith, few, as_many, has.count)
-
--- a constant refers to no label
-address_goes : (ok : ℕ → Type 0) (place : Place) → ItemsGo ok (address_items place)
-address_goes ok (places.Number number) = (tt, (tt, tt))
-address_goes ok other = (tt, tt)
-
-content_goes : (ok : ℕ → Type 0) (content : Content) → ItemsGo ok (content_items content)
-content_goes ok (contents.Byte value) = (tt, tt)
-content_goes ok (contents.Word place) = address_goes ok place
-content_goes ok (contents.Gap count) = (tt, tt)
-
-contents_go : (ok : ℕ → Type 0) (list : List Content) → ItemsGo ok (contents_items list)
-contents_go ok [] = tt
-contents_go ok (content ∷ others) =
-    items_both ok (content_items content) (contents_items others) (content_goes ok content)
-    (contents_go ok others)
 
 -- no label of a body has two numbers
 body_differs :

@@ -1,12 +1,12 @@
 -- Footprints of single planned steps.
-use Rattle.measure_laws.proofs.Prelude.{◌≡◌, ℕ, ◌+◌, ◌*◌, ◌≤◌, Bool, true, false, if◌then◌else◌, List, [], ◌∷◌, arith, refl, false≢true, Sp, ScalarType, Option, TypedArguments, TypedExpression, height_of, height_of_arguments, count_of_arguments, Takes, TypesHold, TypesHoldInArguments, weight_of_arguments, weight_of_expression, WordForm, ExpressionNumber, Range, AreArguments, IsExpression, nodes_of, LabelNumber, TreeModule, Planned, part, whole, BodyGround, ItemsMeasured, IsWithinLevel, JumpTo, JumpsTo, MayBind, MayGo, PlanMeasured, PlanFootprint, Source, bytes_for, Item, TypedReference, TypedTarget, Reference, Target, IsReference, IsTarget, AimHolds, TypesHoldInReference, height_of_reference, height_of_target, weight_of_reference, Task, Step, Facts, Here, Location, Static, Frame, Site, knowing, is_at, location_of, site_of, AreCarriedOut, ListCarriedOut, StatementCarriedOut, StepCarriedOut, carried_steps, jump_on_steps, load_byte_steps, load_word_steps, byte_at_steps, word_at_steps, HoldsNoStatement, keeps_stack, keeps_stack_with, GoesOnWithLabel, GoesOnWithWord, size_of_step, size_of_steps, beside_at, PartOf, NoSubscript, None, IsAbsent, IsPart}
+use Rattle.measure_laws.proofs.Prelude.{bound_first, ◌≡◌, ℕ, ◌+◌, ◌*◌, ◌≤◌, Bool, true, false, if◌then◌else◌, List, [], ◌∷◌, arith, refl, false≢true, Sp, ScalarType, Option, TypedArguments, TypedExpression, height_of, height_of_arguments, count_of_arguments, Takes, TypesHold, TypesHoldInArguments, weight_of_arguments, weight_of_expression, WordForm, ExpressionNumber, Range, AreArguments, IsExpression, nodes_of, LabelNumber, TreeModule, Planned, part, whole, BodyGround, ItemsMeasured, IsWithinLevel, JumpTo, JumpsTo, MayBind, MayGo, PlanMeasured, PlanFootprint, Source, bytes_for, Item, TypedReference, TypedTarget, Reference, Target, IsReference, IsTarget, AimHolds, TypesHoldInReference, height_of_reference, height_of_target, weight_of_reference, Task, Step, Facts, Here, Location, Static, Frame, Site, knowing, is_at, location_of, site_of, AreCarriedOut, ListCarriedOut, StatementCarriedOut, StepCarriedOut, carried_steps, jump_on_steps, load_byte_steps, load_word_steps, byte_at_steps, word_at_steps, HoldsNoStatement, keeps_stack, keeps_stack_with, GoesOnWithLabel, GoesOnWithWord, size_of_step, size_of_steps, beside_at, PartOf, NoSubscript, None, IsAbsent, IsPart}
 use Rattle.asm8080.specs.declared.item.WordForm.TheVariants as word_forms
 use Rattle.steps8080.specs.declared.step.Step.TheVariants as steps
 use Rattle.steps8080.specs.declared.step.Task.TheVariants as tasks
 use Rattle.statements8080.specs.declared.plan.Planned.TheVariants as planned
 use Rattle.measure_laws.specs.internal.Footprints.{Aims, Footprint, Goes, IsWithin, Needs, Places, TaskIsOf, anywhere, bytes_of_task}
 use Rattle.measure_laws.proofs.Footprints.Weights as weights
-use Rattle.measure_laws.proofs.{Bounds.ExpressionParts.{target_weighs, typed_is, weight_beside}, Bounds.Fitting.{items_then, items_within, none_fit, none_measured, then_fit}, Bounds.Pieces.{bytes_of_plan, bytes_of_planned, bytes_of_step, jump_given, jumps_parted}, Footprints.Addresses.{instruction_small}, Footprints.Items.{Measured, bound_first, ground, steps_measured}, Footprints.Joining.{by_finding, by_test, counted, joined, kept_plain}, Footprints.Parts.{knows_anywhere}, Footprints.Trees.{gives, needs}, Footprints.Weights.{arguments_weigh, reference_weighs, weighs_at}}
+use Rattle.measure_laws.proofs.{Bounds.ExpressionParts.{target_weighs, typed_is, weight_beside}, Bounds.Fitting.{items_then, items_within, none_fit, none_measured, then_fit}, Bounds.Pieces.{bytes_of_plan, bytes_of_planned, bytes_of_step, jump_given, jumps_parted}, Footprints.Addresses.{instruction_small}, Footprints.Items.{Measured, ground, steps_measured}, Footprints.Joining.{by_finding, by_test, counted, joined, kept_plain}, Footprints.Parts.{knows_anywhere}, Footprints.Trees.{gives, needs}, Footprints.Weights.{arguments_weigh, reference_weighs, weighs_at}}
 
 -- A planned step that is neither a statement nor a list, by the footprints of its expression steps: `To` is a
 -- condition on the labels that it refers to.

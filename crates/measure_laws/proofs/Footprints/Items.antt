@@ -1,6 +1,6 @@
 -- The items of steps, as the footprint of the steps says: they find room, they have no more bytes, and they
 -- refer to labels that may be referred to. These are the laws of sizes, of heights and of labels.
-use Rattle.measure_laws.proofs.Prelude.{inl, inr, ℕ, ◌+◌, ◌-◌, ◌≤◌, Bool, true, false, List, [], ◌∷◌, ◌++◌, Option, Some, None, if◌then◌else◌, refl, subst, slice_get, arith, Instr, Sp, size_of_instruction, Item, WordForm, size_of_items, ProcedureKind, TreeProcedure, Place, Number, Facts, LabelNumber, Part, Step, Task, jump_item, word_item, Site, AreWritten, CallWritten, ChangeWritten, HoldsWritten, IsWritten, JumpWritten, MarkWritten, NoneWritten, PartWritten, PlainWritten, RoutineWritten, TestWritten, WordWritten, call_items, items_of_call, knowing, test_items, test_of_a, steps_of, task_steps, BranchThere, ByteDropped, CallThere, FindsRoom, HaltThere, InstructionThere, JumpThere, LabelThere, NothingThere, PopThere, PushThere, ReturnThere, RoutineThere, TableJumpThere, WordThere, GoesOn, GoesOnWithLabel, GoesOnWithWord, size_of_steps, ItemGoes, ItemsBind, ItemsGo, Knows, StepsBind, size_in_parts, taken_by, Source}
+use Rattle.measure_laws.proofs.Prelude.{bound_after, bound_first, items_both, inl, inr, ℕ, ◌+◌, ◌-◌, ◌≤◌, Bool, true, false, List, [], ◌∷◌, ◌++◌, Option, Some, None, if◌then◌else◌, refl, subst, slice_get, arith, Instr, Sp, size_of_instruction, Item, WordForm, size_of_items, ProcedureKind, TreeProcedure, Place, Number, Facts, LabelNumber, Part, Step, Task, jump_item, word_item, Site, AreWritten, CallWritten, ChangeWritten, HoldsWritten, IsWritten, JumpWritten, MarkWritten, NoneWritten, PartWritten, PlainWritten, RoutineWritten, TestWritten, WordWritten, call_items, items_of_call, knowing, test_items, test_of_a, steps_of, task_steps, BranchThere, ByteDropped, CallThere, FindsRoom, HaltThere, InstructionThere, JumpThere, LabelThere, NothingThere, PopThere, PushThere, ReturnThere, RoutineThere, TableJumpThere, WordThere, GoesOn, GoesOnWithLabel, GoesOnWithWord, size_of_steps, ItemGoes, ItemsBind, ItemsGo, Knows, StepsBind, size_in_parts, taken_by, Source}
 use Rattle.isa8080.specs.declared.instr.Instr.TheVariants as instructions
 use Rattle.asm8080.specs.declared.item.Item.TheVariants as items
 use Rattle.asm8080.specs.declared.item.WordForm.TheVariants as word_forms
@@ -100,13 +100,6 @@ label_measured (word_forms.CallWhere condition) label to is go = absurd is
 label_measured {free = free} form label to is go =
     let rest = go free is in put _ (WordThere refl rest.room) to (omega arith) rest
 
--- items after others
-pub items_both :
-    (ok : ℕ → Type 0) (first others : List Item) → ItemsGo ok first → ItemsGo ok others
-    → ItemsGo ok (first ++ others)
-items_both ok [] others one two = two
-items_both ok (item ∷ first) others one two = (one.0, items_both ok first others one.1 two)
-
 pub both_measured :
     {at : Ground} {free middle after one two : ℕ} (first more : List Item)
     → Measured at free first middle one
@@ -138,20 +131,6 @@ size_of_call site procedure = by (slice_get site.tree.now.procedures.items proce
         → size_of_items (elim found [ Some one ↦ items_of_call procedure one.kind | None ↦ [] ]) ≤ 3
     by (Some one) = size_of_kind procedure one.kind
     by None = omega arith
-
--- labels that items bind
-pub bound_first : (label : ℕ) (first others : List Item) → ItemsBind label first
-    → ItemsBind label (first ++ others)
-bound_first label [] others is = absurd is
-bound_first label (item ∷ first) others is = elim is [
-  | inl here ↦ inl here
-  | inr later ↦ inr (bound_first label first others later)
-]
-
-pub bound_after : (label : ℕ) (first others : List Item) → ItemsBind label others
-    → ItemsBind label (first ++ others)
-bound_after label [] others is = is
-bound_after label (item ∷ first) others is = inr (bound_after label first others is)
 
 -- labels that steps bind are bound by their items
 pub steps_bound :

@@ -4,8 +4,8 @@ use Rattle.asm8080.specs.declared.item.Item.TheVariants as items
 use Rattle.asm8080.specs.declared.item.Reference.{Reference}
 use Rattle.asm8080.specs.declared.item.Reference.TheVariants.{AtLabel, AtNumber, AtTarget}
 use Rattle.measure_laws.specs.internal.Footprints.{Ground, TaskIsOf, anywhere, bytes_of_task}
-use Rattle.measure_laws.specs.internal.ItemLabels.{ReferenceGoes}
-use Rattle.measure_laws.proofs.{Footprints.Items.{Measured, part_measured}}
+use Rattle.codegen8080.specs.internal.ItemLabels.{ReferenceGoes}
+use Rattle.measure_laws.proofs.Footprints.Items.{Measured, part_measured}
 
 reference_anywhere : (reference : Reference) → ReferenceGoes anywhere reference
 reference_anywhere (AtLabel label) = tt

@@ -1,8 +1,8 @@
 -- Labels that planned steps bind, and that their items bind too.
-use Rattle.measure_laws.proofs.Prelude.{◌≡◌, inl, inr, ℕ, zero, suc, ◌+◌, ◌<◌, ◌≤◌, Bool, true, false, List, [], ◌∷◌, ◌++◌, Option, arith, subst, cases_lt, Item, Facts, LabelNumber, Site, Body, Planned, Here, AreCarriedOut, ListCarriedOut, NoneCarriedOut, StatementCarriedOut, StepCarriedOut, carried_steps, jump_on_steps, site_of, steps_from, ItemsBind, PlanBinds, PlannedBinds, StepsBind}
+use Rattle.measure_laws.proofs.Prelude.{bound_after, bound_first, ◌≡◌, inl, inr, ℕ, zero, suc, ◌+◌, ◌<◌, ◌≤◌, Bool, true, false, List, [], ◌∷◌, ◌++◌, Option, arith, subst, cases_lt, Item, Facts, LabelNumber, Site, Body, Planned, Here, AreCarriedOut, ListCarriedOut, NoneCarriedOut, StatementCarriedOut, StepCarriedOut, carried_steps, jump_on_steps, site_of, steps_from, ItemsBind, PlanBinds, PlannedBinds, StepsBind}
 use Rattle.steps8080.specs.declared.step.Step.TheVariants as steps
 use Rattle.statements8080.specs.declared.plan.Planned.TheVariants as planned
-use Rattle.measure_laws.proofs.Footprints.Items.{bound_after, bound_first, steps_bound}
+use Rattle.measure_laws.proofs.Footprints.Items.{steps_bound}
 
 turn_binds :
     (label : ℕ) (goes_on : Bool) (end other : LabelNumber)

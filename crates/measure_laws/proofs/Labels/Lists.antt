@@ -1,10 +1,10 @@
 -- The labels that a list binds, and those of the lists around it.
-use Rattle.measure_laws.proofs.Prelude.{◌≡◌, inl, inr, refl, sym, ap, ◌∙◌, subst, ℕ, ◌+◌, ◌<◌, ◌≤◌, true, List, [], ◌∷◌, ◌++◌, length, Option, Some, None, Any, arith, slice_get, none-some, same_Some, IsAmongLabels, JumpsStay, LabelsOf, LabelsStand, labels_of_list, LabelStatement, TypedStatement, TypedStatements, Item, Range, StatementNumber, AreMoreStatements, AreNoStatements, AreStatements, IsGoto, IsLabel, IsStatement, IsStatementForm, IsStatementNode, nodes_of, statement, Facts, LabelNumber, knowing, Body, body_label, goto_label, goto_label_of, Here, AreAllCarriedOut, AreCarriedOut, IsCarriedOut, IsListCarriedOut, ListPlanned, StatementPlanned, site_of, statement_steps, ItemsBind, at_or_after, BodyGround, MayBind, MayGo}
+use Rattle.measure_laws.proofs.Prelude.{bound_after, bound_first, ◌≡◌, inl, inr, refl, sym, ap, ◌∙◌, subst, ℕ, ◌+◌, ◌<◌, ◌≤◌, true, List, [], ◌∷◌, ◌++◌, length, Option, Some, None, Any, arith, slice_get, none-some, same_Some, IsAmongLabels, JumpsStay, LabelsOf, LabelsStand, labels_of_list, LabelStatement, TypedStatement, TypedStatements, Item, Range, StatementNumber, AreMoreStatements, AreNoStatements, AreStatements, IsGoto, IsLabel, IsStatement, IsStatementForm, IsStatementNode, nodes_of, statement, Facts, LabelNumber, knowing, Body, body_label, goto_label, goto_label_of, Here, AreAllCarriedOut, AreCarriedOut, IsCarriedOut, IsListCarriedOut, ListPlanned, StatementPlanned, site_of, statement_steps, ItemsBind, at_or_after, BodyGround, MayBind, MayGo}
 use Rattle.treecode.specs.declared.statement.Statement.{Statement}
 use Rattle.treecode.specs.declared.statement.Statement.TheVariants as statements
 use Rattle.treecode.proofs.LabelNumbers.{first_or_later}
 use Rattle.codegen8080.specs.internal.Generated as generated
-use Rattle.measure_laws.proofs.{Footprints.Items.{bound_after, bound_first}, Labels.Binding.{plan_bound}}
+use Rattle.measure_laws.proofs.Labels.Binding.{plan_bound}
 
 -- the labels of the lists around a place may be referred to, by their numbers in a body
 abbrev pub AroundGo : BodyGround → (labels : List ℕ) → (around : List LabelsOf) → Type 0

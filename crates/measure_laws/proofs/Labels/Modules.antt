@@ -1,7 +1,7 @@
 -- The code of a module refers to labels that it binds, and to those of routines that are called.
-use Rattle.measure_laws.proofs.Prelude.{◌≡◌, inl, inr, refl, sym, ap, subst, ℕ, zero, suc, ◌+◌, Bool, List, [], ◌∷◌, ◌++◌, Option, Some, None, arith, slice_get, none-some, same_Some, TypedModule, Storage, Item, TreeModule, ProcedureKind, TreeProcedure, IsLowered, items_of_call, module_call_items, module_label_of_routine, Body, site_of, AreCodeOf, IsCodeOf, IsOwnCode, IsProcedureCode, contents_items, ItemsBind, ItemsGo, HasItsPlace, Knows, LabelsHavePlaces, IsSound}
+use Rattle.measure_laws.proofs.Prelude.{bound_after, bound_first, ◌≡◌, inl, inr, refl, sym, ap, subst, ℕ, zero, suc, ◌+◌, Bool, List, [], ◌∷◌, ◌++◌, Option, Some, None, arith, slice_get, none-some, same_Some, TypedModule, Storage, Item, TreeModule, ProcedureKind, TreeProcedure, IsLowered, items_of_call, module_call_items, module_label_of_routine, Body, site_of, AreCodeOf, IsCodeOf, IsOwnCode, IsProcedureCode, contents_items, ItemsBind, ItemsGo, HasItsPlace, Knows, LabelsHavePlaces, IsSound}
 use Rattle.treecode.specs.declared.procedure.ProcedureKind.TheVariants as kinds
-use Rattle.measure_laws.proofs.{Bounds.Modules.{own_code_measured}, Footprints.Items.{bound_after, bound_first}}
+use Rattle.measure_laws.proofs.Bounds.Modules.{own_code_measured}
 
 -- the labels of procedures that are not EXTERNAL are bound by their code
 IsNotExternal : ProcedureKind → Type 0

@@ -17,7 +17,8 @@ use Rattle.codegen8080.specs.declared.meeting.Here.{Here}
 use Rattle.codegen8080.specs.internal.Generated.{AreCarriedOut, IsCarriedOut, IsListCarriedOut, site_of}
 use Rattle.measure_laws.specs.internal.Footprints.{HoldsWithin, IsWithin, Source}
 use Rattle.measure_laws.specs.internal.Heights.{FindsRoom}
-use Rattle.measure_laws.specs.internal.ItemLabels.{ItemsBind, ItemsGo, Knows}
+use Rattle.codegen8080.specs.internal.ItemLabels.{ItemsBind, ItemsGo}
+use Rattle.measure_laws.specs.internal.ItemLabels.{Knows}
 use Rattle.measure_laws.specs.internal.Sizes.{bytes_for}
 
 -- What the code of a body is measured by: the source of its tree code, the bytes that are free at each jump and label,

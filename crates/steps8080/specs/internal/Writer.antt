@@ -1,6 +1,6 @@
 -- Code as it is written. Its items name labels and EXTERNAL names by their numbers in the module; the code
 -- numbers both in the order of their first use.
-use Rattle.std.specs.Prelude.{◌≡◌, ◌==◌, ◌⊎◌, ℕ, Bool, true, false, if◌then◌else◌, nat_lt, List, [], ◌∷◌, ◌++◌, length, map, slice_index_or, Option, Some, None, option_map}
+use Rattle.std.specs.Prelude.{◌≡◌, ◌==◌, ◌<◌, ◌⊎◌, ℕ, Bool, true, false, if◌then◌else◌, nat_lt, List, [], ◌∷◌, ◌++◌, length, map, slice_index_or, Option, Some, None, option_map}
 use Rattle.std.specs.List.{list_any}
 use Rattle.object_modules.specs.declared.segment.Segment.TheVariants as segments
 use Rattle.object_modules.specs.declared.segment.Target.TheVariants.{InSegment, External}
@@ -71,6 +71,33 @@ NumbersNames before after items =
     → entry after name ≡ Some number
     → (entry before name ≡ Some number) ⊎ (use_name name items ≡ true)
 
+-- whether a reference is to the label with this number; whether an item, one of items refers to it or is its place
+abbrev pub is_to_label : (number : ℕ) → Reference → Bool
+is_to_label number (AtLabel other) = number == other
+is_to_label number reference = false
+
+abbrev pub names_label : (number : ℕ) → Item → Bool
+names_label number (WithWord form reference) = is_to_label number reference
+names_label number (Address reference) = is_to_label number reference
+names_label number (Mark other) = number == other
+names_label number item = false
+
+abbrev pub name_label : (number : ℕ) → List Item → Bool
+name_label number items = list_any (names_label number) items
+
+-- a label of code that is new is that of this number
+abbrev pub CountsOne : (number : ℕ) → (before after : Written) → Type 0
+CountsOne number before after =
+    (label : ℕ) → label < after.code.labels
+    → (label < before.code.labels) ⊎ (entry after.labels number ≡ Some label)
+
+-- a label of code that is new is that of a number that items name
+abbrev pub CountsNamed : (before after : Written) → List Item → Type 0
+CountsNamed before after items =
+    (label : ℕ) → label < after.code.labels
+    → (label < before.code.labels)
+    ⊎ ((number : ℕ) × (entry after.labels number ≡ Some label) × (name_label number items ≡ true))
+
 -- whether a label has its place, by its number in the module
 abbrev pub is_marked : (marked : List Bool) → (label : ℕ) → Bool
 is_marked marked label = slice_index_or marked label false
@@ -91,13 +118,14 @@ pub record AreWritable (before : Written) (items : List Item) : Type 0 where
   pub once : BoundOnce items
   pub new : (label : ℕ) → is_bound label items ≡ true → is_marked before.marked label ≡ false
 
--- Items are appended to code, whole if they are writable. Numbers that were given before stay, and the table of
--- names keeps its length.
+-- Items are appended to code, whole if they are writable. Numbers that were given before stay, the code has no label
+-- more than the items name, and the table of names keeps its length.
 pub record Writes (before after : Written) (items : List Item) : Type 0 where
   pub made : List Item
   pub added : after.code.items ≡ before.code.items ++ made
   pub same : AreWritable before items → numbered after items ≡ Some made
   pub labels : Extends before.labels after.labels
+  pub counted : CountsNamed before after items
   pub marked : MarksOnly before.marked after.marked items
   pub externals : Extends before.externals after.externals
   pub names : NumbersNames before.externals after.externals items

@@ -7,7 +7,7 @@ returns-in_err-code-clause-refused c =
     code_refused c.args.tree.now c.in_ok-writer.field-0.start.index
     c.in_ok-writer.field-0.writer _ _ c.finish.result
     c.from_residual-in_err-code.result c.in_err-code.field-0.0 (search rules) (search rules)
-    c.in_ok-writer.ensures
+    c.in_ok-writer.ensures.written
     c.finish.ensures.refused
 
 pub returns-clause-made : goal.returns-clause-made
@@ -15,5 +15,5 @@ returns-clause-made c =
     marked c.args.tree.now c.in_ok-writer.field-0.start.index c.in_ok-writer.field-0.writer
     c.in_ok-code.code.bytes
     c.in_ok-code.code.labels.items c.into_list-marks.result.items c.put_routines.new.marks.items
-    c.in_ok-writer.ensures
+    c.in_ok-writer.ensures.written
     c.in_ok-code.ensures.finishes c.in_ok-put_routines.ensures

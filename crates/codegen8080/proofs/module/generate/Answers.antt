@@ -8,7 +8,7 @@ names_of-requires-clause-as_many c =
     ap (λ table. length table) c.in_ok-variables.ensures.externals
     ∙ c.in_ok-variables_of.ensures.count
     ∙ ap (λ table. length table) c.in_ok-code.ensures.externals
-    ∙ c.in_ok-writer.ensures.count
+    ∙ c.in_ok-writer.ensures.written.count
 
 pub returns-clause-made : goal.returns-clause-made
 returns-clause-made c =
@@ -17,7 +17,7 @@ returns-clause-made c =
     c.in_ok-code.code.bytes c.in_ok-variables.variables.bytes c.in_ok-code.code.labels.items
     c.in_ok-variables.variables.labels.items c.in_ok-listed.ensures.listed c.in_ok-listed.listed.names
     c.in_ok-listed.listed.numbers.items c.start_of-start.result c.in_ok-object.object
-    c.in_ok-writer.ensures
+    c.in_ok-writer.ensures.written
     c.in_ok-code.ensures.finishes
     c.in_ok-variables_of.ensures.items
     (subst (λ table. Extends table c.in_ok-variables_of.field-0.externals) c.in_ok-code.ensures.externals
@@ -46,14 +46,14 @@ returns-in_err-code-clause-refused c =
     code_refused c.args.tree.now c.in_ok-writer.field-0.start.index
     c.in_ok-writer.field-0.writer _ _ c.finish.result
     c.from_residual-in_err-code.result c.in_err-code.field-0.0 (search rules) (search rules)
-    c.in_ok-writer.ensures
+    c.in_ok-writer.ensures.written
     c.finish.ensures.refused
 
 pub returns-in_err-variables-clause-refused : goal.returns-in_err-variables-clause-refused
 returns-in_err-variables-clause-refused c =
     data_refused c.args.tree.now c.in_ok-writer.field-0.start.index c.in_ok-writer.field-0.writer
     c.in_ok-variables_of.field-0 _ _ c.finish-2.result c.from_residual-in_err-variables.result
-    c.in_err-variables.field-0.0 (search rules) (search rules) c.in_ok-writer.ensures
+    c.in_err-variables.field-0.0 (search rules) (search rules) c.in_ok-writer.ensures.written
     c.in_ok-variables_of.ensures.items
     (subst (λ table. Extends table c.in_ok-variables_of.field-0.externals) c.in_ok-code.ensures.externals
     c.in_ok-variables_of.ensures.externals)

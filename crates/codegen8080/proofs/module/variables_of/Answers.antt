@@ -1,5 +1,5 @@
 use Rattle.codegen8080.proofs.Prelude.{ap, length, subst, ◌∙◌, entry, NumbersNames, Writes, Written, contents_items}
-use Rattle.codegen8080.proofs.ModuleParts.{data_items}
+use Rattle.codegen8080.proofs.{ModuleParts.{data_items}, PlacedLabels.{data_bound}}
 use Rattle.codegen8080.proofs.module.variables_of.Goals as goal
 
 pub returns-clause-items : goal.returns-clause-items
@@ -26,3 +26,10 @@ pub returns-clause-count : goal.returns-clause-count
 returns-clause-count c =
     c.in_ok-put_contents.ensures.count
     ∙ ap (λ (written : Written). length written.externals) c.sharing-writer.ensures
+
+pub returns-clause-bound : goal.returns-clause-bound
+returns-clause-bound c =
+    data_bound c.sharing-writer.result c.put_contents.new.writer c.args.tree.now.variables.items
+    (ap (λ (written : Written). written.code.labels) c.sharing-writer.ensures)
+    (subst (λ contents. Writes c.sharing-writer.result c.put_contents.new.writer (contents_items contents))
+    c.as_slice.ensures.value c.in_ok-put_contents.ensures)

@@ -3,7 +3,7 @@ use Rattle.codegen8080.proofs.object.object_of.Goals as goal
 
 pub returns : goal.returns
 returns c = record {
-  name = ap (λ (object : ObjectModule). object.name) c.from_parts.ensures ∙ c.valid-name.ensures.same;
+  name = ap (λ (object : ObjectModule). object.name) c.from_parts.ensures;
   code =
       ap (λ (object : ObjectModule). object.code) c.from_parts.ensures
       ∙ ap (places_stored Code)

@@ -17,7 +17,7 @@ returns-clause-ok g c =
     (λ done. three_written (g.W.Write.contents c.args.out.now) (g.W.Write.contents c.write_segment.new.out)
     (g.W.Write.contents c.write_segment-2.new.out) (g.W.Write.contents c.write_end.new.out) _ _ _
     c.in_ok-write_segment.ensures.ok c.in_ok-write_segment-2.ensures.ok
-    (subst (Appends _ _) (ap end_text c.start.ensures) done))
+    (subst (Appends _ _) (ap end_text c.start.ensures.start) done))
 
 pub returns-clause-err : goal.returns-clause-err
 returns-clause-err g c =
@@ -26,4 +26,4 @@ returns-clause-err g c =
     (g.W.Write.contents c.write_segment.new.out)
     (g.W.Write.contents c.write_segment-2.new.out) (g.W.Write.contents c.write_end.new.out) _ _ _
     c.in_ok-write_segment.ensures.ok c.in_ok-write_segment-2.ensures.ok
-    (subst (AppendsBeginning _ _) (ap end_text c.start.ensures) done))
+    (subst (AppendsBeginning _ _) (ap end_text c.start.ensures.start) done))

@@ -1,8 +1,8 @@
-use Rattle.tool.proofs.Prelude.{program_modules, texts_of}
-use Rattle.tool.proofs.{CompiledLemmas.{within_texts}, SourcesLemmas.{no_program}}
+use Rattle.tool.proofs.Prelude.{texts_of}
+use Rattle.tool.proofs.{CompiledLemmas.{within_texts}, SourcesLemmas.{too_long}}
 use Rattle.tool.proofs.building.build.Goals as goal
 
 pub returns-clause-too_long : goal.returns-clause-too_long
 returns-clause-too_long c file below long =
-    no_program (texts_of c.args.sources.now) (program_modules c.in_ok-built.built.program) file
-    c.in_ok-built.ensures.program (within_texts c.args.sources.now file below) long
+    too_long c.build_few.result (texts_of c.args.sources.now) c.args.plan.now file c.build_few.ensures.program
+    c.build_few.ensures.refused c.build_few.ensures.order (within_texts c.args.sources.now file below) long

@@ -13,9 +13,9 @@ invariant_of-result c =
       publics = map owned_public_view c.self.inside.publics.items;
     } in
     let none : map owned_public_view c.self.inside.publics.items ≡ [] = search rules in
-    let more : names_of after ≡ names_of before ++ c.valid-name.result ∷ [] =
+    let more : names_of after ≡ names_of before ++ c.args.name ∷ [] =
     ap (λ (e : List (List ℕ)). names_of (record { externals = e; publics = after.publics }))
     c.in_ok-push.ensures.items
-    ∙ external_names before.externals before.publics c.valid-name.result none in
-    linkage_with_name before after c.valid-name.result more c.self.invariant c.valid-name.ensures.valid
+    ∙ external_names before.externals before.publics c.args.name none in
+    linkage_with_name before after c.args.name more c.self.invariant (search rules)
     (search rules) c.self.invariant.publics

@@ -10,4 +10,4 @@ returns-in-Err-Fault-clause-fault c =
 pub returns-in-Ok-clause-code : goal.returns-in-Ok-clause-code
 returns-in-Ok-clause-code c =
     finished _ c.args.self c.self.inside.is_marked.items c.in-Ok.bytes c.self.view_is c.self.invariant
-    c.label_count.ensures.valid c.in-Ok.ensures.done
+    (search rules) c.in-Ok.ensures.done
