@@ -1,5 +1,5 @@
 -- The text of a source with its files put in, and what is told of its lines with controls.
-use Rattle.std.specs.Prelude.{ℕ, zero, suc, ◌+◌, ◌-◌, Bool, true, false, ◌==◌, if◌then◌else◌, Option}
+use Rattle.std.specs.Prelude.{ℕ, zero, suc, ◌+◌, ◌-◌, Bool, true, false, ◌==◌, ◌&&◌, if◌then◌else◌, Option}
 use Rattle.std.specs.Prelude.{List, [], ◌∷◌, ◌++◌, length, map, drop}
 use Rattle.convert.specs.declared.advice.Advice.{Advice}
 use Rattle.convert.specs.declared.assembly.Assembly.{Assembly}
@@ -15,7 +15,7 @@ use Rattle.convert.specs.declared.includes.Entry.{Entry}
 use Rattle.convert.specs.Blocks.{applies, blocks_after, concern_at}
 use Rattle.convert.specs.Controls.{argument_of, is_last, kind_at, last_control, step_at, word_length}
 use Rattle.convert.specs.Includes.{Answer, absent, answer_of, file_name, no_name, present, unknown}
-use Rattle.convert.specs.Lines.{is_control, lines_of, lines_of_file, return_of}
+use Rattle.convert.specs.Lines.{is_control, is_unbroken, lines_of, lines_of_file, return_of}
 use Rattle.convert.specs.Switches.{SwitchView, are_names, condition_value, items_of, switch_view, switches_of}
 
 -- What was put together so far: the text; where each of its lines stands; what is told; the switches that were set and reset;
@@ -101,9 +101,9 @@ switched_if applying advice place line parts = if applying then switched advice 
 abbrev pub with_told : List ℕ → PlacedNote → Parts → Parts
 with_told line note parts = with_line note.place (return_of line) (with_note note parts)
 
--- how the file of a number is put in, by its lines
+-- how the file of a number is put in, by its text
 abbrev pub Puts : Type 0
-Puts = Place → List ℕ → ℕ → List (List ℕ) → Parts → Parts
+Puts = Place → List ℕ → ℕ → List ℕ → Parts → Parts
 
 -- a line with an INCLUDE of this name, by what is known of its file
 abbrev pub included_by : Advice → Puts → Place → List ℕ → List ℕ → Answer → Parts → Parts
@@ -113,7 +113,7 @@ included_by advice puts place line name unknown parts =
     with_told line (record { place = place; text = advice.not_looked_for }) (with_wanted name parts)
 included_by advice puts place line name absent parts =
     with_told line (record { place = place; text = advice.no_file }) parts
-included_by advice puts place line name (present file text) parts = puts place line file (lines_of_file text) parts
+included_by advice puts place line name (present file text) parts = puts place line file text parts
 
 -- the same, by what was looked for
 abbrev pub included : Advice → List Entry → Puts → Place → List ℕ → List ℕ → Parts → Parts
@@ -185,12 +185,18 @@ lines_put advice entries puts file number (line ∷ lines) blocks parts =
     lines_put advice entries puts file (number + 1) lines (blocks_put advice place line blocks parts)
     (line_put advice entries puts place line blocks parts)
 
+-- what is told of a file that is included, if a line with controls is all of it
+abbrev pub with_ends : Advice → ℕ → List ℕ → Parts → Parts
+with_ends advice file text parts =
+    if is_unbroken text && is_control text
+    then with_note (record { place = record { file = file; line = 1 }; text = advice.no_feed }) parts else parts
+
 -- the lines of a file that is included, and of those that it includes, where files may be so deep
-abbrev pub file_put : Advice → List Entry → (depth : ℕ) → Place → List ℕ → ℕ → List (List ℕ) → Parts → Parts
-file_put advice entries zero place line file lines parts =
+abbrev pub file_put : Advice → List Entry → (depth : ℕ) → Place → List ℕ → ℕ → List ℕ → Parts → Parts
+file_put advice entries zero place line file text parts =
     with_told line (record { place = place; text = advice.too_deep }) parts
-file_put advice entries (suc depth) place line file lines parts =
-    lines_put advice entries (file_put advice entries depth) file 1 lines [] parts
+file_put advice entries (suc depth) place line file text parts =
+    lines_put advice entries (file_put advice entries depth) file 1 (lines_of_file text) [] (with_ends advice file text parts)
 
 -- nothing but what was told before, and switches that are set
 abbrev pub parts_with : List PlacedNote → List (List ℕ) → Parts

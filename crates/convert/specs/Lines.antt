@@ -1,7 +1,7 @@
 -- Lines of old sources.
-use Rattle.std.specs.Prelude.{ℕ, ◌-◌, Bool, false, ◌==◌, ◌||◌, if◌then◌else◌}
+use Rattle.std.specs.Prelude.{ℕ, ◌-◌, Bool, false, not, ◌==◌, ◌&&◌, ◌||◌, if◌then◌else◌}
 use Rattle.std.specs.Prelude.{List, [], ◌∷◌, length, take, get_or}
-use Rattle.std.specs.List.{slice_split}
+use Rattle.std.specs.List.{list_any, slice_split}
 
 -- a text up to the first ^Z (26), without form feeds (12) and zeros
 abbrev pub plain : List ℕ → List ℕ
@@ -11,6 +11,10 @@ plain (c ∷ source) = if c == 26 then [] else (if (c == 12) || (c == 0) then pl
 -- the lines of a text, without the line feeds (10) between them
 abbrev pub lines_of : List ℕ → List (List ℕ)
 lines_of text = slice_split (λ c. c == 10) text
+
+-- a text with returns (13), but without line feeds (10), is one line
+abbrev pub is_unbroken : List ℕ → Bool
+is_unbroken text = list_any (λ c. c == 13) text && not (list_any (λ c. c == 10) text)
 
 -- a line with controls begins with a dollar sign (36)
 abbrev pub is_control : List ℕ → Bool

@@ -1,9 +1,9 @@
 //! A source with its files put in.
 
 ghost use Rattle.std.specs.Prelude.{◌≡◌, [], map, IfOk};
-ghost use Rattle.convert.specs.Assembly.{as_it_is, assembled, conditioned, controlled, blocks_put, file_put, included, line_of_source, line_put, lines_put, parts_of, parts_with, places_from, switched, switched_by, told_on, told_open, value_at, with_line, with_names, with_note, with_told, with_wanted};
+ghost use Rattle.convert.specs.Assembly.{as_it_is, assembled, conditioned, controlled, blocks_put, file_put, included, line_of_source, line_put, lines_put, parts_of, parts_with, places_from, switched, switched_by, told_on, told_open, value_at, with_ends, with_line, with_names, with_note, with_told, with_wanted};
 ghost use Rattle.convert.specs.Controls.{argument_of, kind_at};
-ghost use Rattle.convert.specs.Lines.{lines_of, lines_of_file};
+ghost use Rattle.convert.specs.Lines.{lines_of};
 ghost use Rattle.convert.specs.Blocks.{blocks_after};
 ghost use Rattle.convert.specs.Switches.{items_of};
 
@@ -13,7 +13,7 @@ use crate::controls::{
     ControlKind, after_word, argument_of, is_last, kind_at, last_control, step_at,
 };
 use crate::includes::{Answer, Entry, answer_of, file_name};
-use crate::lines::{is_control, lines_of, lines_of_file, return_of};
+use crate::lines::{is_control, is_unbroken, lines_of, lines_of_file, return_of};
 use crate::switches::{Switch, add_switches, are_names, condition_value, items_of, set_switches};
 use std::alloc::{AllocError, Global};
 
@@ -117,6 +117,25 @@ fn tell_open(
         rest = more;
     }
     Ok(())
+}
+
+// Adds what is told of a file that is included, if a line with controls is all of it.
+fn tell_ends(
+    advice: &Advice,
+    file: usize,
+    text: &[u8],
+    assembly: &mut Assembly,
+) -> Result<(), AllocError>
+    ensures { IfOk result (λ _. parts_of assembly.new
+        ≡ with_ends advice.now file text.now (parts_of assembly.old)) }
+{
+    if is_unbroken(text) && is_control(text) {
+        let place = Place { file, line: 1 };
+        let text = advice.no_feed;
+        tell(PlacedNote { place, text }, assembly)
+    } else {
+        Ok(())
+    }
 }
 
 // Adds the name of a file that was not looked for.
@@ -239,12 +258,13 @@ fn put_file<'a>(
     assembly: &mut Assembly<'a>,
 ) -> Result<(), AllocError>
     ensures { IfOk result (λ _. parts_of assembly.new
-        ≡ file_put advice.now entries.now depth place line.now file (lines_of_file text.now) (parts_of assembly.old)) }
+        ≡ file_put advice.now entries.now depth place line.now file text.now (parts_of assembly.old)) }
 {
     if depth == 0 {
         let text = advice.too_deep;
         return tell_line(line, PlacedNote { place, text }, assembly);
     }
+    tell_ends(advice, file, text, assembly)?;
     let lines = lines_of_file(alloc, text)?;
     put_lines(
         alloc,

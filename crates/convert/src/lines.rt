@@ -1,7 +1,7 @@
 //! Lines of old sources.
 
 ghost use Rattle.std.specs.Prelude.{◌≡◌, ◌≤◌, ◌==◌, ◌||◌, ◌-◌, get_or, length, map, IfOk};
-ghost use Rattle.convert.specs.Lines.{is_control, lines_of, lines_of_file, plain, return_of};
+ghost use Rattle.convert.specs.Lines.{is_control, is_unbroken, lines_of, lines_of_file, plain, return_of};
 
 use std::alloc::{AllocError, Global};
 
@@ -44,6 +44,13 @@ pub(crate) fn lines_of_file(alloc: Global, text: &[u8]) -> Result<Vec<&[u8]>, Al
     } else {
         lines_of(alloc, text)
     }
+}
+
+/// Whether a text has returns, but no line feeds, and so is one line.
+pub(crate) fn is_unbroken(text: &[u8]) -> bool
+    ensures { result ≡ is_unbroken text.now }
+{
+    text.contains(&b'\r') && !text.contains(&b'\n')
 }
 
 /// Whether a line has controls.

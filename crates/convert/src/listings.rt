@@ -95,8 +95,12 @@ fn note_listed(
     }
 }
 
-// Adds a note on a line of a number.
-fn tell(number: usize, text: &'static str, notes: &mut Vec<PlacedNote>) -> Result<(), AllocError>
+/// Adds a note on a line of a number.
+pub(crate) fn tell(
+    number: usize,
+    text: &'static str,
+    notes: &mut Vec<PlacedNote>,
+) -> Result<(), AllocError>
     ensures { IfOk result (λ _. notes.new.items
         ≡ notes.old.items ++ (record { place = line_of_source number; text = text.entry }) ∷ []) }
 {

@@ -1,14 +1,14 @@
 //! What of a file is the source.
 
-ghost use Rattle.std.specs.Prelude.{◌≡◌, map, true, IfOk};
+ghost use Rattle.std.specs.Prelude.{◌≡◌, ◌++◌, map, true, IfOk};
 ghost use Rattle.convert.specs.Listings.{listed_text, listing_notes_from};
-ghost use Rattle.convert.specs.Preparing.{from_listing, notes_of_listing, prepared, prepared_notes};
+ghost use Rattle.convert.specs.Preparing.{from_listing, loses_lines, notes_of_ends, notes_of_listing, prepared, prepared_notes};
 
 use crate::advice::Advice;
 use crate::assembly::PlacedNote;
 use crate::cards::carded;
-use crate::lines::{lines_of, plain};
-use crate::listings::{join_listed, note_listing};
+use crate::lines::{is_control, is_unbroken, lines_of, plain};
+use crate::listings::{join_listed, note_listing, tell};
 use std::alloc::{AllocError, Global};
 
 /// How a file holds its source.
@@ -36,6 +36,45 @@ pub fn prepare(
 ) -> Result<Prepared, AllocError>
     ensures text { IfOk result (λ made. made.text.items ≡ prepared medium file.now) }
     ensures notes { IfOk result (λ made. made.notes.items ≡ prepared_notes advice.now medium file.now) }
+{
+    let mut made = from_medium(alloc, advice, medium, file)?;
+    let text = plain(alloc, file)?;
+    note_ends(advice, medium, text.as_slice(), &mut made.notes)?;
+    Ok(made)
+}
+
+// Whether what a file holds would be lost after its first line.
+fn loses_lines(medium: Medium, text: &[u8]) -> bool
+    ensures { result ≡ loses_lines medium text.now }
+{
+    is_control(text) || medium.listing || medium.cards
+}
+
+// Adds what is told of a file, which is plain, if all of it is one line.
+fn note_ends(
+    advice: &Advice,
+    medium: Medium,
+    text: &[u8],
+    notes: &mut Vec<PlacedNote>,
+) -> Result<(), AllocError>
+    ensures { IfOk result (λ _. notes.new.items ≡ notes.old.items ++ notes_of_ends advice.now medium text.now) }
+{
+    if is_unbroken(text) && loses_lines(medium, text) {
+        tell(1, advice.no_feed, notes)
+    } else {
+        Ok(())
+    }
+}
+
+// The source of a file, and what is told of the lines of a listing.
+fn from_medium(
+    alloc: Global,
+    advice: &Advice,
+    medium: Medium,
+    file: &[u8],
+) -> Result<Prepared, AllocError>
+    ensures text { IfOk result (λ made. made.text.items ≡ prepared medium file.now) }
+    ensures notes { IfOk result (λ made. made.notes.items ≡ notes_of_listing advice.now medium.listing file.now) }
 {
     let source = from_listing(alloc, advice, medium.listing, file)?;
     if medium.cards {
