@@ -3,6 +3,7 @@
 
 mod asking;
 mod console;
+mod converted;
 mod explanation;
 mod globals;
 mod hints;

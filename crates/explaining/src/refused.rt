@@ -1,5 +1,6 @@
 //! Where a source is refused, and why.
 
+use crate::converted::text_of_words;
 use crate::explanation::Seen;
 use crate::hints::{Hint, hint_at};
 use crate::kinds::as_source;
@@ -349,6 +350,15 @@ pub(crate) fn explain_source(page: &mut Page, seen: &Seen, told: Told, text: &[u
         page.cause(other, told.number);
         return;
     }
+    match text_of_words(seen, told.place, text) {
+        Ok(Some(lines)) => explain_text(page, seen, told, lines.as_slice()),
+        Ok(None) => explain_text(page, seen, told, text),
+        Err(_) => page.note(false),
+    }
+}
+
+// Adds why a text is refused that is no other kind of file.
+fn explain_text(page: &mut Page, seen: &Seen, told: Told, text: &[u8]) {
     match fault_of(page, seen.alloc, text) {
         Some(fault) if fault.number() == told.number && fault.line() == told.line => {
             explain_at(page, seen, told, text, &fault);
