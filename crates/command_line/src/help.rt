@@ -1,10 +1,18 @@
 //! What `plm --help` prints, beside the lines that `clap` makes of the arguments.
 
-// A text of which the words in capitals stand for the lines of faults: the numbers, and what each means, as the fault says it
-// itself (`tables` compares the two). X is the name, or the text, that is printed with the number. What was joined so far stands
-// in the brackets.
+// A text of which the words in capitals stand for lines that several commands have: ASKING for what asks for an explanation, the
+// others for lines of faults, which are the numbers, and what each means, as the fault says it itself (`tables` compares the two).
+// X is the name, or the text, that is printed with the number. What was joined so far stands in the brackets.
 macro_rules! text_of {
     ([$($done:literal)*]) => { concat!($($done),*) };
+    // of what asks for an explanation
+    ([$($done:literal)*] ASKING $($rest:tt)*) => {
+        text_of!([$($done)* "With each command, before or after its name:
+  --explain        shows where a fault is, what it means and what is likely wrong
+  --explain=TABLE  also tells from where its line comes, by a table of plm convert --lines
+
+"] $($rest)*)
+    };
     // of the text of a source
     ([$($done:literal)*] TEXTS $($rest:tt)*) => {
         text_of!([$($done)*] WORDS "  C7      a word that cannot stand here
@@ -207,10 +215,7 @@ Both `plm run FILE` and `plm interpret FILE` print
   OUT 01 2A
   HALT
 
-With each command, before or after its name:
-  --explain        shows where a fault is, what it means and what is likely wrong
-  --explain=TABLE  also tells from where its line comes, by a table of plm convert --lines
-
+" ASKING "\
 Numbers, where X is the name or the text that is printed with one:
 " TEXTS CODE MODULES SEGMENTS MERGES OBJECTS PLACES IMAGES COUNTS LENGTHS FILES VALUES MEMORY "\n\
 Read more in the folder docs:
@@ -239,6 +244,7 @@ Example: compile two modules, link them, and print the bytes of the program
   plm link --out program.obj main.obj show.obj
   plm hex program.obj
 
+" ASKING "\
 Numbers, where X is the name or the text that is printed with one:
 " TEXTS CODE LENGTHS FILES MEMORY "\n\
 Read more in the folder docs: faults.md (each number with an example and its cure), commands.md");
@@ -292,10 +298,7 @@ prints
   OUT 01 2A
   HALT
 
-With each command, before or after its name:
-  --explain        shows where a fault is, what it means and what is likely wrong
-  --explain=TABLE  also tells from where its line comes, by a table of plm convert --lines
-
+" ASKING "\
 Numbers, where X is the name or the text that is printed with one:
 " TEXTS CODE MODULES SEGMENTS PLACES COUNTS LENGTHS FILES VALUES MEMORY "\n\
 Read more in the folder docs: faults.md (each number with an example and its cure), commands.md");
@@ -353,10 +356,7 @@ prints
   OUT 01 2A
   HALT
 
-With each command, before or after its name:
-  --explain        shows where a fault is, what it means and what is likely wrong
-  --explain=TABLE  also tells from where its line comes, by a table of plm convert --lines
-
+" ASKING "\
 Numbers, where X is the name or the text that is printed with one:
 " TEXTS CODE MODULES SEGMENTS PLACES COUNTS LENGTHS FILES VALUES MEMORY "\n\
 Read more in the folder docs: faults.md (each number with an example and its cure), commands.md");
@@ -381,6 +381,7 @@ Example: link two objects, and print the bytes of the program
   plm link --out program.obj main.obj show.obj
   plm hex program.obj
 
+" ASKING "\
 Numbers, where X is the name or the text that is printed with one:
 " MERGES OBJECTS FILES MEMORY "\n\
 Read more in the folder docs: faults.md (each number with an example and its cure), commands.md");
@@ -415,6 +416,7 @@ Example: an object with nine bytes of code and a public name S at offset 4 print
   START 0100
   PUBLIC S 0104
 
+" ASKING "\
 Numbers, where X is the name or the text that is printed with one:
 " TEXTS MODULES OBJECTS PLACES IMAGES COUNTS LENGTHS FILES VALUES MEMORY "\n\
 Read more in the folder docs: faults.md (each number with an example and its cure), commands.md");
@@ -443,6 +445,7 @@ the code, prints
   :09010000CD0401763E08D304C9C8
   :00000001FF
 
+" ASKING "\
 Numbers, where X is the name or the text that is printed with one:
 " OBJECTS PLACES IMAGES FILES VALUES MEMORY "\n\
 Read more in the folder docs: faults.md (each number with an example and its cure), commands.md");
@@ -486,6 +489,7 @@ code, and a public name S at offset 4 prints
   0104 3E 08     MVI A,08
   0106 C9        RET
 
+" ASKING "\
 Numbers, where X is the name or the text that is printed with one:
 " TEXTS CODE MODULES SEGMENTS OBJECTS PLACES IMAGES COUNTS LENGTHS FILES VALUES MEMORY "\n\
 Read more in the folder docs: faults.md (each number with an example and its cure), commands.md");
@@ -513,6 +517,7 @@ prints
   VAR M - A 4000 1
   LINE M 1 0100
 
+" ASKING "\
 Numbers, where X is the name or the text that is printed with one:
 " TEXTS CODE MODULES SEGMENTS PLACES COUNTS LENGTHS FILES VALUES MEMORY "\n\
 Read more in the folder docs: faults.md (each number with an example and its cure), commands.md");
@@ -564,6 +569,7 @@ Example: run a module together with one that an assembler made
   plm compile main.plm main.obj
   plm execute main.obj show.obj
 
+" ASKING "\
 Numbers, where X is the name or the text that is printed with one:
 " MERGES OBJECTS PLACES PAGES FILES VALUES MEMORY "\n\
 Read more in the folder docs: faults.md (each number with an example and its cure), commands.md");
@@ -582,6 +588,7 @@ A number that no fault has is refused as `U4 text 0` on standard error.
 Example: a run printed C7 prog.plm 4
   plm explain C7
 
+" ASKING "\
 Numbers that can occur here, where X is the text that is printed with one:
 " FILES VALUES MEMORY "\n\
 Read more in the folder docs: faults.md (all numbers), commands.md");
@@ -615,6 +622,7 @@ Example: convert a source of the time, and run what comes out
 Example: the same of a listing that such a compiler printed
   plm convert --listing old.lst > new.plm
 
+" ASKING "\
 Numbers that can occur here, where X is the name that is printed with one:
 " WORDS LENGTHS FILES MEMORY "\n\
 Read more in the folder docs: old-sources.md (from a listing to a run), convert.md (the rules)");
