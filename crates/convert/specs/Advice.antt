@@ -14,6 +14,7 @@ pub record AdviceView : Type 0 where
   pub no_if : List ℕ
   pub no_end : List ℕ
   pub no_names : List ℕ
+  pub no_switch : List ℕ
   pub no_feed : List ℕ
 
 abbrev pub advice_view : Advice → AdviceView
@@ -28,6 +29,7 @@ advice_view advice = record {
   no_if = advice.no_if.now;
   no_end = advice.no_end.now;
   no_names = advice.no_names.now;
+  no_switch = advice.no_switch.now;
   no_feed = advice.no_feed.now;
 }
 
@@ -44,5 +46,6 @@ usual_advice = record {
   no_if = codes "ELSEIF, ELSE or ENDIF: no IF for it in its file: delete it, or write the IF";
   no_end = codes "IF: no ENDIF for it in its file: write one";
   no_names = codes "SET or RESET: other than names: write names with commas between them";
+  no_switch = codes "--set: no name of a switch: give a letter, and then letters, digits, $ and _";
   no_feed = codes "CR without any LF, so that all is one line: write LF in place of each CR";
 }

@@ -1,6 +1,7 @@
 -- The text of a source with its files put in, and what is told of its lines with controls.
 use Rattle.std.specs.Prelude.{ℕ, zero, suc, ◌+◌, ◌-◌, Bool, true, false, ◌==◌, ◌&&◌, if◌then◌else◌, Option}
 use Rattle.std.specs.Prelude.{List, [], ◌∷◌, ◌++◌, length, map, drop}
+use Rattle.std.specs.List.{list_all}
 use Rattle.convert.specs.declared.advice.Advice.{Advice}
 use Rattle.convert.specs.declared.assembly.Assembly.{Assembly}
 use Rattle.convert.specs.declared.assembly.Place.{Place}
@@ -16,7 +17,7 @@ use Rattle.convert.specs.Blocks.{applies, blocks_after, concern_at}
 use Rattle.convert.specs.Controls.{argument_of, is_last, kind_at, last_control, step_at, word_length}
 use Rattle.convert.specs.Includes.{Answer, absent, answer_of, file_name, no_name, present, unknown}
 use Rattle.convert.specs.Lines.{is_control, is_unbroken, lines_of, lines_of_file, return_of}
-use Rattle.convert.specs.Switches.{SwitchView, are_names, condition_value, items_of, switch_view, switches_of}
+use Rattle.convert.specs.Switches.{SwitchView, are_names, condition_value, is_name, items_of, switch_view, switches_of}
 
 -- What was put together so far: the text; where each of its lines stands; what is told; the switches that were set and reset;
 -- and the names of files that were not looked for.
@@ -198,19 +199,30 @@ file_put advice entries zero place line file text parts =
 file_put advice entries (suc depth) place line file text parts =
     lines_put advice entries (file_put advice entries depth) file 1 (lines_of_file text) [] (with_ends advice file text parts)
 
+-- the line of a number of the source
+abbrev pub line_of_source : ℕ → Place
+line_of_source number = record { file = 0; line = number }
+
+-- what is told of switches that are set from the beginning, if one has no name
+abbrev pub notes_of_sets : Advice → List (List ℕ) → List PlacedNote
+notes_of_sets advice sets =
+    if list_all is_name sets then [] else record { place = line_of_source 0; text = advice.no_switch } ∷ []
+
 -- nothing but what was told before, and switches that are set
-abbrev pub parts_with : List PlacedNote → List (List ℕ) → Parts
-parts_with before sets =
-    record { text = []; places = []; notes = before; switches = switches_of true sets; wanted = [] }
+abbrev pub parts_with : Advice → List PlacedNote → List (List ℕ) → Parts
+parts_with advice before sets = record {
+  text = [];
+  places = [];
+  notes = before ++ notes_of_sets advice sets;
+  switches = switches_of true sets;
+  wanted = [];
+}
 
 -- a source with its files put in, with these files and with these switches set, after what was told before
 abbrev pub assembled : Advice → List Entry → List PlacedNote → List (List ℕ) → List ℕ → Parts
 assembled advice entries before sets source =
-    lines_put advice entries (file_put advice entries DEEPEST_FILE) 0 1 (lines_of source) [] (parts_with before sets)
-
--- the line of a number of the source
-abbrev pub line_of_source : ℕ → Place
-line_of_source number = record { file = 0; line = number }
+    lines_put advice entries (file_put advice entries DEEPEST_FILE) 0 1 (lines_of source) []
+    (parts_with advice before sets)
 
 -- where lines of the source stand, of which the first has a number
 abbrev pub places_from : ℕ → List (List ℕ) → List Place

@@ -27,6 +27,8 @@ pub struct Advice {
     pub no_end: &'static str,
     /// What is set or reset is no name.
     pub no_names: &'static str,
+    /// What the command line sets is no name.
+    pub no_switch: &'static str,
     /// Lines end with a return alone.
     pub no_feed: &'static str,
 }
@@ -43,6 +45,7 @@ pub static USUAL_ADVICE: Advice = Advice {
     no_if: "ELSEIF, ELSE or ENDIF: no IF for it in its file: delete it, or write the IF",
     no_end: "IF: no ENDIF for it in its file: write one",
     no_names: "SET or RESET: other than names: write names with commas between them",
+    no_switch: "--set: no name of a switch: give a letter, and then letters, digits, $ and _",
     no_feed: "CR without any LF, so that all is one line: write LF in place of each CR",
 };
 

@@ -1,7 +1,7 @@
 //! A source with its files put in.
 
-ghost use Rattle.std.specs.Prelude.{◌≡◌, [], map, IfOk};
-ghost use Rattle.convert.specs.Assembly.{as_it_is, assembled, conditioned, controlled, blocks_put, file_put, included, line_of_source, line_put, lines_put, parts_of, parts_with, places_from, switched, switched_by, told_on, told_open, value_at, with_ends, with_line, with_names, with_note, with_told, with_wanted};
+ghost use Rattle.std.specs.Prelude.{◌≡◌, ◌++◌, [], map, IfOk};
+ghost use Rattle.convert.specs.Assembly.{as_it_is, assembled, conditioned, controlled, blocks_put, file_put, included, line_of_source, line_put, lines_put, notes_of_sets, parts_of, parts_with, places_from, switched, switched_by, told_on, told_open, value_at, with_ends, with_line, with_names, with_note, with_told, with_wanted};
 ghost use Rattle.convert.specs.Controls.{argument_of, kind_at};
 ghost use Rattle.convert.specs.Lines.{lines_of};
 ghost use Rattle.convert.specs.Blocks.{blocks_after};
@@ -14,7 +14,9 @@ use crate::controls::{
 };
 use crate::includes::{Answer, Entry, answer_of, file_name};
 use crate::lines::{is_control, is_unbroken, lines_of, lines_of_file, return_of};
-use crate::switches::{Switch, add_switches, are_names, condition_value, items_of, set_switches};
+use crate::switches::{
+    Switch, add_switches, are_names, are_switches, condition_value, items_of, set_switches,
+};
 use std::alloc::{AllocError, Global};
 
 /// How deep files may include others: the source may include one that includes one, and so on.
@@ -428,18 +430,34 @@ fn put_lines<'a>(
     tell_open(advice, file, blocks.as_slice(), assembly)
 }
 
+// Adds what is told of switches that are set from the beginning, if one has no name.
+fn note_sets(advice: &Advice, sets: &[&str], notes: &mut Vec<PlacedNote>) -> Result<(), AllocError>
+    ensures { IfOk result (λ _. notes.new.items
+        ≡ notes.old.items ++ notes_of_sets advice.now (map (λ name. name.now) sets.now)) }
+{
+    if are_switches(sets) {
+        return Ok(());
+    }
+    let place = line_of_source(0);
+    let text = advice.no_switch;
+    notes.push(PlacedNote { place, text })?;
+    Ok(())
+}
+
 // Nothing but what was told before, and switches that are set.
 fn begin<'a>(
     alloc: Global,
+    advice: &Advice,
     before: &[PlacedNote],
     sets: &[&'a str],
 ) -> Result<Assembly<'a>, AllocError>
     ensures { IfOk result (λ assembly. parts_of assembly
-        ≡ parts_with before.now (map (λ name. name.now) sets.now)) }
+        ≡ parts_with advice.now before.now (map (λ name. name.now) sets.now)) }
 {
     let mut switches = Vec::new(alloc);
     set_switches(sets, &mut switches)?;
-    let notes = Vec::from_slice(alloc, before)?;
+    let mut notes = Vec::from_slice(alloc, before)?;
+    note_sets(advice, sets, &mut notes)?;
     Ok(Assembly {
         text: Vec::new(alloc),
         places: Vec::new(alloc),
@@ -462,7 +480,7 @@ pub fn assemble<'a>(
     ensures { IfOk result (λ assembly. parts_of assembly
         ≡ assembled advice.now entries.now before.now (map (λ name. name.now) sets.now) source.now) }
 {
-    let mut assembly = begin(alloc, before, sets)?;
+    let mut assembly = begin(alloc, advice, before, sets)?;
     let lines = lines_of(alloc, source)?;
     put_lines(
         alloc,

@@ -57,7 +57,8 @@ fn note_ends(
     text: &[u8],
     notes: &mut Vec<PlacedNote>,
 ) -> Result<(), AllocError>
-    ensures { IfOk result (λ _. notes.new.items ≡ notes.old.items ++ notes_of_ends advice.now medium text.now) }
+    ensures { IfOk result (λ _. notes.new.items
+        ≡ notes.old.items ++ notes_of_ends advice.now medium text.now) }
 {
     if is_unbroken(text) && loses_lines(medium, text) {
         tell(1, advice.no_feed, notes)
@@ -74,7 +75,8 @@ fn from_medium(
     file: &[u8],
 ) -> Result<Prepared, AllocError>
     ensures text { IfOk result (λ made. made.text.items ≡ prepared medium file.now) }
-    ensures notes { IfOk result (λ made. made.notes.items ≡ notes_of_listing advice.now medium.listing file.now) }
+    ensures notes { IfOk result (λ made. made.notes.items
+        ≡ notes_of_listing advice.now medium.listing file.now) }
 {
     let source = from_listing(alloc, advice, medium.listing, file)?;
     if medium.cards {

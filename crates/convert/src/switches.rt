@@ -237,6 +237,20 @@ pub(crate) fn are_names(items: &[&[u8]]) -> bool
     some
 }
 
+/// Whether these are names of switches.
+pub(crate) fn are_switches(names: &[&str]) -> bool
+    ensures { result ≡ list_all is_name (map (λ name. name.now) names.now) }
+{
+    let mut rest = names;
+    while let [name, more @ ..] = rest {
+        if !is_name(name.as_bytes()) {
+            return false;
+        }
+        rest = more;
+    }
+    true
+}
+
 /// Adds the switches of the items but of empty ones, on or off.
 pub(crate) fn add_switches<'a>(
     on: bool,
