@@ -1,4 +1,4 @@
--- What is printed of the number of a fault.
+-- What is printed of the number of a fault, and of a word with which a run ends, which is meant by a number too.
 use Rattle.std.specs.Prelude.{◌==◌, ◌&&◌, Bool, List, Option, Some, None, find, length, slice_index, take}
 use Rattle.std.specs.List.{slice_split}
 use Rattle.std.specs.Str.{str_eq_ignore_ascii_case}

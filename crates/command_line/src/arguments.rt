@@ -237,7 +237,7 @@ const EXPLAINED: &[Argument] = &[Argument {
     kind: Kind::File,
     name: "NUMBER",
     value: "NUMBER",
-    help: "The number of a fault, such as C7",
+    help: "The number of a fault, such as C7, or a word with which a run ends, as OUTSIDE",
 }];
 
 // What is converted, and how.

@@ -199,7 +199,7 @@ pub(crate) const CONVERT: Teaching = Teaching {
 };
 
 pub(crate) const EXPLAIN: Teaching = Teaching {
-    about: "Explains the number of a fault: what it means, an example and the cure",
+    about: "Explains the number of a fault: what it means, an example and the cure; or how a run ended",
     printed: PRINTED_BY_EXPLAIN,
 };
 
@@ -575,13 +575,13 @@ Numbers, where X is the name or the text that is printed with one:
 Read more in the folder docs: faults.md (each number with an example and its cure), commands.md");
 
 const PRINTED_BY_EXPLAIN: &str = text_of!([] "\
-Prints what docs/faults.md says of the number, in lines of 80 columns. The case of its letters does
-not count. No file is read.
+Prints what docs/faults.md says of the number, or of the word with which a run ended, in lines of 80
+columns. The case of its letters does not count. No file is read.
 
 Exit status:
   0  it was printed, or help was asked for
   1  memory ran out, or standard output can't be written
-  2  the command line is wrong, or no fault has the number
+  2  the command line is wrong, or no fault has the number, and no run ends with it
 
 A number that no fault has is refused as `U4 text 0` on standard error.
 

@@ -1,4 +1,4 @@
-//! What is printed of the number of a fault.
+//! What is printed of the number of a fault, and of a word with which a run ends.
 
 ghost use Rattle.std.specs.Prelude.{◌≡◌, IfOk, find, map, option_map};
 ghost use Rattle.command_line.specs.Explained.{is_page_of, page_in, page_of, pages_in};
@@ -77,7 +77,8 @@ fn page_among<'a>(
     Ok(None)
 }
 
-/// What is printed of the number of a fault, in which the case of letters does not count, where there is such a number.
+/// What is printed of the number of a fault, or of a word with which a run ends, where there is such a one. The case of letters
+/// does not count.
 pub(crate) fn page(alloc: Global, number: &str) -> Result<Option<&'static [u8]>, AllocError>
     ensures { IfOk result (λ found. option_map (λ page. page.now) found ≡ page_of number.now) }
 {

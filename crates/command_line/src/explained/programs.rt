@@ -1,7 +1,7 @@
-//! What is printed of the numbers of faults of the modules of a program together, of their places, and of files and options. `tools/faults --write` makes it of docs/faults.md.
+//! What is printed of the numbers of faults of the modules of a program together, of their places, and of files and options; and of the ends of runs. `tools/faults --write` makes it of docs/faults.md.
 
 /// The pages, with form feeds between them. Each begins with its number, on a line of its own.
-pub const PROGRAMS: [u8; 7854] = *b"\
+pub const PROGRAMS: [u8; 11651] = *b"\
 J1
 
 An EXTERNAL name that no module has as PUBLIC, used or not. \"Where\" is the name.
@@ -264,4 +264,90 @@ is that text, and the status is 2. Addresses are decimal, including that of
     U4 100H 0
 
 Cure: `--code 256`.
+\x0cHALT
+
+Line    Meaning                       Usually
+------  ----------------------------  -------
+`HALT`  the program ended (status 0)
+
+With `--where` a line after it says in which line of the source that was
+(`docs/commands.md`).
+
+Only `plm interpret` prints OUTSIDE. `plm run` does not notice, and goes on with
+whatever is in memory, so a program that behaves oddly is best tried with
+`plm interpret`.
+\x0cLIMIT
+
+Line     Meaning                Usually
+-------  ---------------------  ------------------------------------------------
+`LIMIT`  the budget of          a loop that never ends (\"Why does my loop not
+           `--limit` was used     end?\" in `docs/language.md`); or a long run: a
+           up (status 3)          greater `--limit`
+
+With `--where` a line after it says in which line of the source that was
+(`docs/commands.md`).
+
+Only `plm interpret` prints OUTSIDE. `plm run` does not notice, and goes on with
+whatever is in memory, so a program that behaves oddly is best tried with
+`plm interpret`.
+\x0cOUTSIDE
+
+Line                Meaning                            Usually
+------------------  ---------------------------------  -------------------------
+`OUTSIDE DIVIDE`    `/` or MOD by 0 (status 5, like    an empty table, a count
+                      the next three)                    of 0
+`OUTSIDE BYTE`      a byte was read or written that    a subscript too large, a
+                      is not declared, or past the       base that was never
+                      dimension of a variable in a       set, an absolute
+                      REENTRANT procedure                address without AT
+`OUTSIDE CONSTANT`  a byte of DATA or of a constant    MOVE or a BASED object
+                      list was written                   into a text
+`OUTSIDE STACK`     a call for which the stack has no  a recursion without end,
+                      room                               or a deep one: a larger
+                                                         `--stack-size`
+
+With `--where` a line after it says in which line of the source that was
+(`docs/commands.md`).
+
+Only `plm interpret` prints OUTSIDE. `plm run` does not notice, and goes on with
+whatever is in memory, so a program that behaves oddly is best tried with
+`plm interpret`.
+\x0cILLEGAL
+
+Line       Meaning                           Usually
+---------  --------------------------------  -----------------------------------
+`ILLEGAL`  the machine met a code that is    a program that went outside before:
+             no instruction (status 4)         `plm interpret` stops there
+
+With `--where` a line after it says in which line of the source that was
+(`docs/commands.md`).
+
+Only `plm interpret` prints OUTSIDE. `plm run` does not notice, and goes on with
+whatever is in memory, so a program that behaves oddly is best tried with
+`plm interpret`.
+\x0cPORT
+
+Line    Meaning                   Usually
+------  ------------------------  -------
+`PORT`  a port failed (status 4)
+
+With `--where` a line after it says in which line of the source that was
+(`docs/commands.md`).
+
+Only `plm interpret` prints OUTSIDE. `plm run` does not notice, and goes on with
+whatever is in memory, so a program that behaves oddly is best tried with
+`plm interpret`.
+\x0cDRY
+
+Line   Meaning                                           Usually
+-----  ------------------------------------------------  -----------------------
+`DRY`  with `--until-dry`: a port was to be read past    the program waits for
+         its input (status 3)                              more of it
+
+With `--where` a line after it says in which line of the source that was
+(`docs/commands.md`).
+
+Only `plm interpret` prints OUTSIDE. `plm run` does not notice, and goes on with
+whatever is in memory, so a program that behaves oddly is best tried with
+`plm interpret`.
 ";
