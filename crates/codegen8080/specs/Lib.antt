@@ -1,3 +1,4 @@
 pub mod Faults
 pub mod Targets
+pub mod Marks
 pub mod internal

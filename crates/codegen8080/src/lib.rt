@@ -17,6 +17,6 @@ mod statements;
 mod targets;
 
 pub use fault::Fault;
-pub use marking::{CodePart, Mark, code_marks};
+pub use marking::{CodePart, Mark};
 pub use meeting::Here;
-pub use module::generate;
+pub use module::{Generated, generate};

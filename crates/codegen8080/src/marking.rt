@@ -1,19 +1,11 @@
 //! Where the parts of the code of a module begin.
 
-ghost use Rattle.std.specs.Prelude.{◌≡◌, ◌+◌, [], ◌++◌, min, IfOk, OnOk};
-ghost use Rattle.failure.specs.Failure.{IfFault};
-ghost use Rattle.treecode.specs.internal.Nodes.{nodes_of};
-ghost use Rattle.treecode.specs.internal.Rising.{NumbersRise};
-ghost use Rattle.codegen8080.specs.internal.Marking.{AreMarksOf, routine_mark};
-ghost use Rattle.codegen8080.specs.internal.Standing.{BodiesStand};
-ghost use Rattle.codegen8080.specs.internal.Refusals.{MayRefuse};
-ghost use Rattle.codegen8080.specs.internal.Marks.{PutsMark, marks_from};
-ghost use Rattle.codegen8080.specs.internal.Sources.{IsOfModule};
+ghost use Rattle.std.specs.Prelude.{◌≡◌, ◌+◌, [], ◌++◌, length, min, IfOk, OnOk};
+ghost use Rattle.codegen8080.specs.internal.Marking.{routine_mark};
+ghost use Rattle.codegen8080.specs.internal.Marks.{PutsPart, marks_from, marks_of_parts};
+ghost use Rattle.codegen8080.specs.internal.Modules.{all_routines};
 
-use crate::fault::Fault;
-use crate::module::{ModuleCode, code_of, finish};
 use exprgen8080::{Finished, ROUTINES, Writer, routine_label};
-use failure::Failure;
 use runtime8080::Routine;
 use std::alloc::{AllocError, Global};
 use treecode::{StatementNumber, TreeModule};
@@ -39,21 +31,58 @@ pub struct Mark {
     pub place: u16,
 }
 
-/// The marks of code that grows at its end, in the order of the code.
-#[derive(Drop)]
-pub(crate) struct Marks {
-    list: Vec<Mark>,
-    /// How many items the code had at the last mark, and how many bytes these take, 65535 at most.
-    items: usize,
-    bytes: u16,
+/// A part of code, and how far it begins after the part before it, or after the start of the code: 65535 bytes at most.
+#[derive(Clone, Copy)]
+pub(crate) struct Begun {
+    pub(crate) part: CodePart,
+    pub(crate) distance: u16,
 }
 
-// The place after more bytes of code, 65535 at most.
-fn place_after(place: u16, more: u128) -> u16
-    ensures { result ≡ min (place + more) 65535 }
+/// The parts of code that grows at its end, in the order of the code.
+#[derive(Drop)]
+pub(crate) struct Marks {
+    list: Vec<Begun>,
+    /// How many items the code had where the last part begins.
+    items: usize,
+}
+
+// A number of bytes, 65535 at most.
+fn capped(bytes: u128) -> u16
+    ensures { result ≡ min bytes 65535 }
 {
-    let more = u16::try_from(more).unwrap_or(u16::MAX);
-    place.saturating_add(more)
+    u16::try_from(bytes).unwrap_or(u16::MAX)
+}
+
+// The place at a distance from another, in code that ends at a place.
+fn place_after(place: u16, distance: u16, end: u16) -> u16
+    ensures { result ≡ min (place + distance) end }
+{
+    place.saturating_add(distance).min(end)
+}
+
+// The marks of parts of code that ends at a place.
+fn placed(alloc: Global, parts: &[Begun], end: u16) -> Result<Vec<Mark>, AllocError>
+    ensures { IfOk result (λ marks. marks.items ≡ marks_of_parts 0 end parts.now) }
+{
+    let mut marks = Vec::new(alloc);
+    let mut place = 0;
+    let mut rest = parts;
+    while let [part, more @ ..] = rest {
+        place = place_after(place, part.distance, end);
+        marks.push(Mark {
+            part: part.part,
+            place,
+        })?;
+        rest = more;
+    }
+    Ok(marks)
+}
+
+// Where code ends.
+fn end_of(code: &Finished) -> u16
+    ensures { result ≡ length code.now.bytes.bytes }
+{
+    code.bytes.bytes().len() as u16
 }
 
 impl Marks {
@@ -61,38 +90,37 @@ impl Marks {
     pub(crate) fn new(alloc: Global) -> Marks
         ensures list { result.list.items ≡ [] }
         ensures items { result.items ≡ 0 }
-        ensures bytes { result.bytes ≡ 0 }
     {
         Marks {
             list: Vec::new(alloc),
             items: 0,
-            bytes: 0,
         }
     }
 
-    /// Adds the mark of a part whose code comes next.
+    /// Adds a part whose code comes next.
     pub(crate) fn put(&mut self, writer: &Writer, part: CodePart) -> Result<(), AllocError>
-        ensures { OnOk result (PutsMark writer.now.code.items part self.old self.new) }
+        ensures { OnOk result (PutsPart writer.now.code.items part self.old self.new) }
     {
-        self.bytes = place_after(self.bytes, writer.size_from(self.items));
+        let distance = capped(writer.size_from(self.items));
         self.items = writer.item_count();
-        self.list.push(Mark {
-            part,
-            place: self.bytes,
-        })?;
+        self.list.push(Begun { part, distance })?;
         Ok(())
     }
 
-    /// The marks.
-    pub(crate) fn into_list(self) -> Vec<Mark>
-        ensures { result ≡ self.list }
+    /// The marks of the parts, and after them those of the routines, whose code comes last.
+    pub(crate) fn with_routines(
+        self,
+        alloc: Global,
+        tree: &TreeModule,
+        code: &Finished,
+    ) -> Result<Vec<Mark>, AllocError>
+        ensures { IfOk result (λ marks. marks.items
+            ≡ marks_of_parts 0 (length code.now.bytes.bytes) self.list.items
+            ++ marks_from tree.now code.now.bytes code.now.labels.items 0 all_routines) }
     {
-        let Marks {
-            list,
-            items: _,
-            bytes: _,
-        } = self;
-        list
+        let mut marks = placed(alloc, self.list.as_slice(), end_of(code))?;
+        put_routines(&mut marks, tree, code, &ROUTINES)?;
+        Ok(marks)
     }
 }
 
@@ -125,25 +153,4 @@ fn put_routines(
         index = next_number(index)?;
     }
     Ok(())
-}
-
-/// Where the parts of the code that `generate` makes of a module begin, in the order of the code. A module is refused only
-/// as `generate` refuses it.
-pub fn code_marks(alloc: Global, tree: &TreeModule) -> Result<Vec<Mark>, Failure<Fault>>
-    requires rise { NumbersRise (nodes_of tree.now) }
-    requires stands { BodiesStand tree.now }
-    requires source { IsOfModule tree.now }
-    ensures made { IfOk result (λ marks. AreMarksOf tree.now marks.items) }
-    ensures refused { IfFault result (λ fault. MayRefuse tree.now fault) }
-{
-    let ModuleCode {
-        writer,
-        start: _,
-        marks,
-    } = code_of(alloc, tree)?;
-    let (code, externals) = finish(writer)?;
-    drop(externals);
-    let mut marks = marks.into_list();
-    put_routines(&mut marks, tree, &code, &ROUTINES)?;
-    Ok(marks)
 }

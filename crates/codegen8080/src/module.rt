@@ -6,6 +6,8 @@ ghost use Rattle.asm8080.specs.Assembled.{AllBound};
 ghost use Rattle.treecode.specs.internal.Nodes.{nodes_of};
 ghost use Rattle.treecode.specs.internal.Rising.{NumbersRise};
 ghost use Rattle.codegen8080.specs.internal.Modules.{IsCodeWritten, IsGenerated, all_routines, content_items, contents_items, has_main};
+ghost use Rattle.codegen8080.specs.Marks.{LieInCode};
+ghost use Rattle.codegen8080.specs.internal.Marking.{AreMarksOf};
 ghost use Rattle.codegen8080.specs.internal.Refusals.{IsNoSegment, MayRefuse};
 ghost use Rattle.codegen8080.specs.internal.Bodies.{AddsCalled, AddsCodeOfMain, AddsOwnCode, AddsProcedures, AddsRoutines, first_routines, last_routines, next_routines};
 ghost use Rattle.codegen8080.specs.internal.Standing.{AllStand, BodiesStand, BodyStands};
@@ -19,7 +21,7 @@ ghost use Rattle.steps8080.specs.internal.Writer.{Finishes, NumbersNames, Writes
 use crate::bodies::{put_main, put_procedure};
 use crate::fault::Fault;
 use crate::generator::Generator;
-use crate::marking::Marks;
+use crate::marking::{Mark, Marks};
 use crate::names::{ListedNames, listed_names, with_publics};
 use crate::object::object_of;
 use exprgen8080::{Externals, Finished, LabelNumber, Writer, routine_label};
@@ -299,23 +301,33 @@ fn names_of(
     Ok(listed)
 }
 
+/// What is made of a module: its object module, and where the parts of its code begin, in the order of the code.
+#[derive(Drop)]
+pub struct Generated {
+    pub object: ObjectModule,
+    pub marks: Vec<Mark>,
+}
+
 /// The object module of a module: its constants and its code in the code segment, its variables in the data segment,
-/// its PUBLIC names, and the EXTERNAL names that it refers to. A module is refused only if its code or its data exceed
-/// 65535 bytes.
-pub fn generate(alloc: Global, tree: &TreeModule) -> Result<ObjectModule, Failure<Fault>>
+/// its PUBLIC names, and the EXTERNAL names that it refers to; and the marks of its code. A module is refused only if its
+/// code or its data exceed 65535 bytes.
+pub fn generate(alloc: Global, tree: &TreeModule) -> Result<Generated, Failure<Fault>>
     requires rise { NumbersRise (nodes_of tree.now) }
     requires stands { BodiesStand tree.now }
     requires linkable { IsLinkable tree.now }
     requires source { IsOfModule tree.now }
-    ensures made { IfOk result (λ object. IsGenerated tree.now object) }
+    ensures made { IfOk result (λ generated. IsGenerated tree.now generated.object) }
+    ensures marked { IfOk result (λ generated. AreMarksOf tree.now generated.marks.items) }
+    ensures within { IfOk result (λ generated. LieInCode generated.object generated.marks.items) }
     ensures refused { IfFault result (λ fault. MayRefuse tree.now fault) }
 {
     let ModuleCode {
         writer,
         start,
-        marks: _,
+        marks,
     } = code_of(alloc, tree)?;
     let (code, externals) = finish(writer)?;
+    let marks = marks.with_routines(alloc, tree, &code)?;
     let (variables, externals) = finish(variables_of(alloc, tree, externals)?)?;
     let listed = names_of(alloc, tree, &externals, &code)?;
     let start = start_of(tree, &code, start);
@@ -329,5 +341,5 @@ pub fn generate(alloc: Global, tree: &TreeModule) -> Result<ObjectModule, Failur
         numbers.as_slice(),
         start,
     )?;
-    Ok(object)
+    Ok(Generated { object, marks })
 }

@@ -16,6 +16,7 @@ pub mod Delivered
 pub mod Names
 pub mod Refused
 pub mod PlacesTold
+pub mod StandingTold
 pub mod Printed
 pub mod PrintedReports
 pub mod PortReads

@@ -1,6 +1,7 @@
 -- Where runs of images stand: addresses that are told, and lines.
-use Rattle.commands.proofs.Prelude.{◌≡◌, ◌∙◌, ℕ, List, [], ◌∷◌, ◌++◌, map, Option, Some, inl, inr, ap, sym, arith, decimal, Joined, Typed, Values, BeginsImage, PrintsImage, module_view, modules_of, slice_get, slice_get-map, contains_at, TypedModule, Absolute, StopsImage, NamesLine, NamesPlace, module_names, no_names, IfOk, String, address_digits}
+use Rattle.commands.proofs.Prelude.{◌≡◌, ◌∙◌, ℕ, List, [], ◌∷◌, ◌++◌, length, length-map, map, subst, Option, Some, inl, inr, ap, sym, arith, decimal, Joined, Typed, Values, BeginsImage, PrintsImage, module_view, modules_of, program_modules, slice_get, slice_get-map, contains_at, TypedModule, Absolute, StopsImage, NamesLine, NamesPlace, module_names, no_names, IfOk, String, address_digits}
 use Rattle.std.specs.Prelude.{option_map, Result, Ok, Err}
+use Rattle.listings.specs.{declared.origins.CodeLines.{CodeLines}, internal.Origins.{AreLinesOf}}
 use Rattle.std.proofs.Common.{Global}
 
 -- an address is told, whatever modules there are
@@ -38,6 +39,12 @@ module _ (names : List (List ℕ)) (before : List ℕ) (values : Values) (image 
 pub any_stops : (names : List (List ℕ)) (values : Values) (image : Absolute) (old new : Option (List ℕ)) → StopsImage no_names values image old new → StopsImage names values image old new
 any_stops names values image old new (inl kept) = inl kept
 any_stops names values image old new (inr begun) = inr (any_begins names [] values image old new begun)
+
+-- there are lines of as many modules as a program has
+pub its_lines : (built program : Joined) (lines : CodeLines) → program ≡ built → AreLinesOf (length (program_modules built)) lines
+    → AreLinesOf (length (modules_of program)) lines
+its_lines built program lines same all =
+    subst (λ (count : ℕ). AreLinesOf count lines) (length-map (modules_of built) module_view ∙ ap (λ (one : Joined). length (modules_of one)) (sym same)) all
 
 -- a line of a module of a program
 pub line_named : (program : Joined) (modules : List Typed) (index : ℕ) (typed : Typed) (line : ℕ) (text : List ℕ) → modules ≡ modules_of program → slice_get modules index ≡ Some typed → text ≡ typed.name ++ 32 ∷ decimal line

@@ -1,5 +1,5 @@
 -- The names that the proofs of this crate cite, passed on from one place. Declares nothing.
-pub use Rattle.std.proofs.{Common.{All, Bool, Bor, Err, IfSome, List, None, Ok, OnOk, Option, Result, Some, [], add-one, ap, append-nil, append_assoc, arith, codes, cond, decimal, drop, false, get_or, inl, inr, length, length-append, map, option_map, refl, set, subst, suc, sym, take, take_all, true, zero, zip, ℕ, ⊎_elim, ◌++◌, ◌+◌, ◌-◌, ◌<◌, ◌==◌, ◌^◌, ◌∙◌, ◌∷◌, ◌≡◌, ◌≤◌, ◌⊎◌}, KnownBytes.{Appends-trans, Keeps-refl}, Math.{Arith.{lt_of_le-ne}, ListN.{drop_of_length-le}, Seq.{drop-cons, take-length}}, lemmas.{Bool.{agree_below_at, cases_lt, eq-eqb, eqb-false, eqb-true, false_from_ne_true, Decides.{nat_tests}}, Grind.{common_steps, get_or-set_at, same_number_lists}, List.{get_or-replicate, get_or-set_other, length-map, length-replicate, length-set, Sums.{count_by-le-length, length-filter, sum_by-append, sum_by-cons}}, Option.{slice_get-map}, Slice.Eq.{bytes_eq-Decides}}}
+pub use Rattle.std.proofs.{Common.{All, Bool, Bor, Contains, Err, IfSome, List, None, Ok, OnOk, Option, Result, Some, [], add-one, ap, append-nil, append_assoc, arith, codes, cond, decimal, drop, false, get_or, inl, inr, length, length-append, map, option_map, refl, set, subst, suc, sym, take, take_all, true, zero, zip, ℕ, ⊎_elim, ◌++◌, ◌+◌, ◌-◌, ◌<◌, ◌==◌, ◌^◌, ◌∙◌, ◌∷◌, ◌≡◌, ◌≤◌, ◌⊎◌}, KnownBytes.{Appends-trans, Keeps-refl}, Math.{Arith.{lt_of_le-ne}, ListN.{drop_of_length-le}, Seq.{drop-cons, take-length}}, lemmas.{Bool.{agree_below_at, cases_lt, eq-eqb, eqb-false, eqb-true, false_from_ne_true, Decides.{nat_tests}}, Grind.{common_steps, get_or-set_at, same_number_lists}, List.{get_or-replicate, get_or-set_other, length-map, length-replicate, length-set, Sums.{count_by-le-length, length-filter, sum_by-append, sum_by-cons}}, Option.{slice_get-map}, Slice.Eq.{bytes_eq-Decides}}}
 pub use Rattle.std.specs.{Fmt.{digits_output, format_spec, styled_digits_output, ◌++?◌}, Io.KnownBytes.{Appends, Keeps}, List.{flat_map}, Option.{option_or}, Prelude.{IfOk, OnErr, String, count_by, filter, if◌then◌else◌, replicate, slice_get, slice_index, slice_set, unwrap_or, ◌||◌}, Str.{bytes_eq}}
 unfoldable pub use Rattle.std.specs.Fmt.{digits}
 pub use Rattle.mem80.specs.{Memory.{IsMemory, byte_at}, Pieces.{IsLoaded}, declared.{memory.TheConstants.{MEMORY_SIZE}, plan.Plan.{Plan}}}

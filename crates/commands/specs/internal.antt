@@ -1,4 +1,5 @@
 pub mod LineFaults
+pub mod Lines
 pub mod Places
 pub mod Reading
 pub mod Converting

@@ -14,7 +14,7 @@ ghost use Rattle.commands.specs.Starting.{IsStart};
 ghost use Rattle.commands.specs.Steps.{CarriesOut, IsWithinInput};
 ghost use Rattle.commands.specs.internal.InputPorts.{IsAtDry, ReadsNext, ReadsNothing, StaysWithin};
 ghost use Rattle.commands.specs.internal.Outcomes.{EndsOnMachine, EndsRun};
-ghost use Rattle.commands.specs.internal.Places.{names_in};
+ghost use Rattle.commands.specs.internal.Places.{IsLineIn, names_in};
 
 use crate::input_ports::{InputPorts, RunPorts};
 use crate::places::{Places, Stand};
@@ -61,6 +61,7 @@ fn run_counted<P: Ports>(
     ensures run { IsRun limit machine.old result.0 machine.new }
     ensures counted { CarriesOut limit machine.old (Some result.0) machine.new.state.events result.1 }
     ensures script { machine.new.script ≡ machine.old.script }
+    ensures line { IfSome result.2 (IsLineIn places.now) }
 {
     let mut done = 0;
     let mut line = None;
@@ -87,8 +88,9 @@ fn run_watched<P: Ports>(
     ensures counted { values.now.watch.count ≡ true →
         CarriesOut values.now.limit machine.old (Some result.0) machine.new.state.events result.1 }
     ensures script { machine.new.script ≡ machine.old.script }
+    ensures line { IfSome result.2 (IsLineIn places.now) }
 {
-    if values.watch.count || matches!(*places, Places::Lines(_, _)) {
+    if values.watch.count || matches!(*places, Places::Lines(_)) {
         run_counted(machine, values.limit, places)
     } else {
         (machine.run(values.limit), 0, None)

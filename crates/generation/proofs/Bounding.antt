@@ -1,5 +1,5 @@
 -- Object modules and refusals by the code bound.
-use Rattle.generation.proofs.Prelude.{Result, Ok, Err, subst, ObjectModule, TypedModule, TreeModule, IsLowered, stored, Fault, TooLong, IsGenerated, MayRefuse, IsSound, code_is_within_its_bound, segment_is_within_its_bound, too_long_is_past_its_bound, IsPastBound, IsWithinBound, MakesNone}
+use Rattle.generation.proofs.Prelude.{Result, Ok, Err, subst, ObjectModule, TypedModule, TreeModule, IsLowered, stored, Fault, TooLong, Generated, IsGenerated, MayRefuse, IsSound, code_is_within_its_bound, segment_is_within_its_bound, too_long_is_past_its_bound, IsPastBound, IsWithinBound, MakesNone}
 use Rattle.failure.specs.{declared.Failure.{Failure}, Failure.{IfFault}}
 use Rattle.failure.specs.declared.Failure.TheVariants as failures
 use Rattle.layout.specs.{Storage.{Storage, storage_with}, Sound.{IsSoundlyTyped}}
@@ -24,10 +24,10 @@ past_bound tree TooLong refused = λ typed code.
     too_long_is_past_its_bound typed code.storage tree code.sound code.few code.lowered refused
 
 pub refusal_past_bound :
-    (tree : TreeModule) (result : Result ObjectModule (Failure Fault))
+    (tree : TreeModule) (result : Result Generated (Failure Fault))
     → IfFault result (λ fault. MayRefuse tree fault)
     → IfFault result (λ fault. IsPastBound tree fault)
-refusal_past_bound tree (Ok object) is = tt
+refusal_past_bound tree (Ok generated) is = tt
 refusal_past_bound tree (Err (failures.Fault fault)) is = past_bound tree fault is
 refusal_past_bound tree (Err failures.Memory) is = tt
 
@@ -55,9 +55,9 @@ not_made tree fault refused = λ typed code.
     }
 
 pub refusal_makes_none :
-    (tree : TreeModule) (result : Result ObjectModule (Failure Fault))
+    (tree : TreeModule) (result : Result Generated (Failure Fault))
     → IfFault result (λ fault. MayRefuse tree fault)
     → IfFault result (λ fault. MakesNone tree fault)
-refusal_makes_none tree (Ok object) is = tt
+refusal_makes_none tree (Ok generated) is = tt
 refusal_makes_none tree (Err (failures.Fault fault)) is = not_made tree fault is
 refusal_makes_none tree (Err failures.Memory) is = tt

@@ -8,7 +8,7 @@ pub use Rattle.object_modules.specs.{Module.{IsObjectModule, ObjectModule, lengt
 pub use Rattle.treecode.specs.{internal.Lowered.{IsLowered}, internal.Nodes.{nodes_of}, declared.module.TreeModule.{TreeModule}, declared.procedure.ProcedureKind.{ProcedureKind}, declared.procedure.TreeProcedure.{TreeProcedure}}
 pub use Rattle.treecode_laws.proofs.Slots.{stored}
 pub use Rattle.treecode_laws.specs.internal.Laid.{IsStored}
-pub use Rattle.codegen8080.specs.{internal.Modules.{AreCodeOf, IsCodeOf, IsCodeOfMain, IsGenerated, has_main}, internal.Refusals.{MayRefuse}, declared.fault.Fault.{Fault, TheVariants.{TooLong}}}
+pub use Rattle.codegen8080.specs.{internal.Modules.{AreCodeOf, IsCodeOf, IsCodeOfMain, IsGenerated, has_main}, internal.Refusals.{MayRefuse}, declared.fault.Fault.{Fault, TheVariants.{TooLong}}, declared.module.Generated.{Generated}}
 pub use Rattle.program_laws.proofs.{Made.{are_storable, as_many_lengths, each_holds_constants, have_image, hold_constants, is_in_memory}, MadePrograms.{are_made, made_program_does, made_program_ends}, Names.{has_names}, Objects.{is_object_of}, OneModule.{generated_does}, Segments.{has_segments}}
 pub use Rattle.program_laws.specs.{OneModule.{DoesWhereItLies}, internal.Typed.{AreSoundlyMade, IsSoundlyMade}}
 pub use Rattle.measure_laws.proofs.{Bounds.Bounds.{code_is_within_its_bound, segment_is_within_its_bound, too_long_is_past_its_bound}, Heights.Modules.{pushes_within_charges}, Trees.{Bounds.{weight_is}, Constants.{constants_take}}}

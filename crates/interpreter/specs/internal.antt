@@ -1,2 +1,3 @@
+pub use Rattle.stack_compiler.specs.internal.Marked
 pub mod MainModules
 pub mod Contents

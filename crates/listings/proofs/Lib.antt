@@ -7,6 +7,8 @@ pub mod Adding
 pub mod LinesWritten
 pub mod NamesAdded
 pub mod ViewsMade
+pub mod MarksMade
+pub mod LineOrigins
 pub mod ProcedureCodes
 pub mod ModuleLists
 pub mod ProgramLists

@@ -25,7 +25,7 @@ pub use Rattle.listings.specs.declared.named.NameText.TheVariants.{Declared}
 pub use Rattle.listings.specs.declared.named.Named.{Named}
 pub use Rattle.listings.specs.declared.parts.CodeSegment.{CodeSegment}
 pub use Rattle.listings.specs.declared.parts.Part.{Part}
-pub use Rattle.listings.specs.declared.views.ModuleView.{ModuleView}
+pub use Rattle.listings.specs.declared.view.ModuleView.{ModuleView}
 pub use Rattle.listings.specs.internal.Adding.{Adds, IsBegun}
 pub use Rattle.listings.specs.internal.Modules.{code_text, first_length}
 pub use Rattle.listings.specs.internal.Parts.{AddsParts, IsAdding, IsByteAt, IsCodeIn, IsCodePart, IsGood, IsGoodBy, IsKindBy, IsLone, IsNamedBy, IsNoCode, IsPartOf, StepsOver, bytes_shown, cells_if, kept_cells, lined, lines_if, part_view, room_of, text_for}

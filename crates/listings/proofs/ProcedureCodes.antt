@@ -1,5 +1,9 @@
 -- Where the code of procedures is.
-use Rattle.listings.proofs.{Prelude.{◌≡◌, ℕ, ◌-◌, ◌<◌, ◌≤◌, ◌==◌, Bool, true, false, cond, List, drop, get_or, length, list_any, map, min, take, Option, Some, None, Result, Ok, Err, ap, sym, subst, ◌∙◌, arith, IfOk, IfSome, ObjectModule, length_of, Code, TypedProcedure, CodeProcedure, procedure_view, BeginsInCode, IsInCode, public_place, IsCodeOf, procedure_with}, Adding.{split_first}}
+use Rattle.listings.proofs.{Prelude.{◌≡◌, ℕ, [], ◌∷◌, ◌-◌, ◌<◌, ◌≤◌, ◌==◌, and_parts, Bool, true, false, cond, List, drop, get_or, length, list_any, map, min, take, take_all, Option, Some, None, Result, Ok, Err, ap, sym, subst, ◌∙◌, arith, IfOk, IfSome, ObjectModule, length_of, Code, TypedProcedure, CodeProcedure, procedure_view, BeginsInCode, IsInCode, public_place, IsCodeOf, procedure_with}, Adding.{split_first}}
+use Rattle.tool.specs.declared.marking.SourceMark.{SourceMark}
+use Rattle.listings.specs.internal.Marks.{LieWithin}
+use Rattle.std.proofs.lemmas.Bool.{leb-true}
+use Rattle.std.specs.{List.{list_all}, Prelude.{nat_le}}
 pub use Rattle.trees.proofs.Keys.{names_equal}
 
 -- a place that is tested
@@ -28,18 +32,40 @@ begun_anywhere (Err fault) found none = tt
 -- the code of a procedure, from where it begins up to where it ends
 pub code_between : (constants : ℕ) (object : ObjectModule) (procedure : TypedProcedure)
     (place end size length : ℕ) → BeginsInCode constants (length_of object Code) place
-    → IsInCode constants (length_of object Code) end → length ≡ length_of object Code
-    → (place < length → place < end) → size ≡ end - place
+    → length ≡ length_of object Code
+    → (place < length → place < end) → end ≤ length → size ≡ end - place
     → IfSome (public_place object.publics procedure) (λ there. there ≡ place)
     → IsCodeOf constants object procedure place size
-code_between constants object procedure place end size length begins ends whole later sized there =
+code_between constants object procedure place end size length begins whole later within sized there =
     let up : place < end = later (omega (arith, begins.within, whole)) in
     record {
       past = begins.past;
       some = omega (arith, up, sized);
-      within = omega (arith, up, ends.within, sized);
+      within = omega (arith, up, within, whole, sized);
       named = there;
     }
+
+-- marks that lie within code: the first of those that are left, and the others
+parts_within : (end : ℕ) (first : SourceMark) (others : List SourceMark) → LieWithin end (first ∷ others)
+    → (first.place ≤ end) × LieWithin end others
+parts_within end first others within =
+    let both = and_parts (nat_le first.place end)
+    (list_all (λ (mark : SourceMark). nat_le mark.place end) others) within in
+    (leb-true first.place end both.0, both.1)
+
+pub first_within : (end : ℕ) (left : List SourceMark) (mark d : SourceMark) → 1 ≤ length left
+    → mark ≡ get_or left 0 d → LieWithin end left → mark.place ≤ end
+first_within end [] mark d some is within = absurd (omega (arith, some))
+first_within end (first ∷ others) mark d some is within =
+    subst (λ (one : SourceMark). one.place ≤ end) (sym is) (parts_within end first others within).0
+
+pub others_within : (end : ℕ) (left : List SourceMark) → 1 ≤ length left → LieWithin end left
+    → LieWithin end (take (length left - 1) (drop 1 left))
+others_within end [] some within = absurd (omega (arith, some))
+others_within end (first ∷ others) some within =
+    let count : length others ≤ length (first ∷ others) - 1 = omega arith in
+    subst (LieWithin end) (sym (take_all (length (first ∷ others) - 1) others count))
+    (parts_within end first others within).1
 
 -- the first procedure of those that are left has an object as a parameter, or it has not
 abbrev with_first : CodeProcedure → (left : List CodeProcedure) → (has : Bool) → (object : ℕ)

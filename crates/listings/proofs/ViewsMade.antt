@@ -128,7 +128,7 @@ source_there sources number source each found =
     (source_at sources number source each (slice_get_within sources number source found))
 
 -- there are as many as the program has modules, and object modules
-same_count : (texts : List (List ℕ)) (modules : List TypedModule) → AreSourcesOf texts modules
+pub same_count : (texts : List (List ℕ)) (modules : List TypedModule) → AreSourcesOf texts modules
     → length texts ≡ length modules
 same_count [] [] are = refl
 same_count [] (typed ∷ modules) are = absurd are

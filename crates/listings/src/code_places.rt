@@ -6,7 +6,7 @@ ghost use Rattle.listings.specs.Names.{BeginsInCode, IsInCode, code_address};
 ghost use Rattle.listings.specs.internal.Programs.{code_size, typed_of};
 
 use crate::constants::constant_size;
-use crate::views::ModuleView;
+use crate::view::ModuleView;
 use object_modules::Segment;
 use std::alloc::AllocError;
 
@@ -26,7 +26,7 @@ pub(crate) fn expect_in_code(view: &ModuleView, place: u32) -> Result<(), AllocE
     if constant_size(view.typed) <= place && place <= length {
         Ok(())
     } else {
-        // The marks of the module's own source are in its code: no clause of `code_marks` says so.
+        // The marks of the module's own source are after its constants: no clause of `generate` says so.
         Err(AllocError)
     }
 }

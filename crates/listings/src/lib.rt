@@ -15,6 +15,7 @@ mod procedures;
 mod programs;
 mod symbol_lines;
 mod text_lines;
+mod view;
 mod views;
 
 pub use origins::{CodeLines, CodeOrigin, SourceLine, code_lines};

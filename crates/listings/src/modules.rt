@@ -18,7 +18,7 @@ use crate::named::Named;
 use crate::parts::{CodeSegment, Part, push_bytes, push_code};
 use crate::places::put_range;
 use crate::text_lines::{after_line, line_length};
-use crate::views::ModuleView;
+use crate::view::ModuleView;
 use mem80::Piece;
 use object_modules::{Name, Segment};
 use std::alloc::{AllocError, Global};

@@ -8,7 +8,7 @@ ghost use Rattle.listings.specs.internal.Views.{name_at, named_view, routine_nam
 
 use crate::code_places::{address_of, expect_begin};
 use crate::procedures::{procedure_at, public_place};
-use crate::views::ModuleView;
+use crate::view::ModuleView;
 use codegen8080::CodePart;
 use object_modules::Name;
 use runtime8080::Routine;

@@ -1,6 +1,6 @@
 //! The procedures of a module: where their code begins, and which objects are their parameters.
 
-ghost use Rattle.std.specs.Prelude.{◌≡◌, ◌<◌, ◌==◌, IfOk, IfSome, Some, map, option_map, slice_get};
+ghost use Rattle.std.specs.Prelude.{◌≡◌, ◌<◌, ◌≤◌, ◌==◌, IfOk, IfSome, Some, map, option_map, slice_get};
 ghost use Rattle.std.specs.List.{list_any};
 ghost use Rattle.std.specs.Str.{bytes_eq};
 ghost use Rattle.object_modules.specs.Views.{owned_public_view};
@@ -8,10 +8,11 @@ ghost use Rattle.typed_trees.specs.Views.{module_view, procedure_view};
 ghost use Rattle.typed_trees.specs.Weight.{constant_bytes};
 ghost use Rattle.listings.specs.Names.{code_place, is_code, public_place};
 ghost use Rattle.listings.specs.Symbols.{IsCodeOf, procedure_with};
+ghost use Rattle.listings.specs.internal.Marks.{LieWithin};
 ghost use Rattle.listings.specs.internal.Programs.{object_of, typed_of};
 
-use crate::code_places::{expect_begin, expect_in_code};
-use crate::views::ModuleView;
+use crate::code_places::expect_begin;
+use crate::view::ModuleView;
 use codegen8080::CodePart;
 use object_modules::{Name, ObjectModule, OwnedPublic, Segment};
 use std::alloc::AllocError;
@@ -83,7 +84,7 @@ fn marked_place(marks: &[SourceMark], number: u32) -> Result<u32, AllocError> {
             return Ok(mark.place as u32);
         }
     }
-    // The marks of the module's own source have each of its procedures: no clause of `code_marks` says so.
+    // The marks of the module's own source have each of its procedures: no clause of `generate` says so.
     Err(AllocError)
 }
 
@@ -93,13 +94,18 @@ fn goes_on(part: CodePart) -> bool {
 }
 
 // Where code that begins at a place ends: where another procedure or a routine begins, or where all code ends.
+#[tactic(auto, using(crate::proofs::ProcedureCodes::first_within, crate::proofs::ProcedureCodes::others_within))]
 fn end_of(marks: &[SourceMark], place: u32, length: u32) -> u32
-    ensures { place < length → place < result }
+    requires marked { LieWithin length marks.now }
+    ensures later { place < length → place < result }
+    ensures within { result ≤ length }
 {
-    for mark in marks {
+    let mut rest = marks;
+    while let [mark, more @ ..] = rest {
         if place < mark.place as u32 && !goes_on(mark.part) {
             return mark.place as u32;
         }
+        rest = more;
     }
     length
 }
@@ -137,7 +143,6 @@ pub(crate) fn code_of(
     let place = begin_of(view, procedure, number)?;
     let end = end_of(view.marks.marks.as_slice(), place, length);
     expect_begin(view, place)?;
-    expect_in_code(view, end)?;
     Ok(ProcedureCode {
         place,
         size: end.saturating_sub(place),

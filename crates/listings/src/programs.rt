@@ -8,7 +8,8 @@ ghost use Rattle.listings.specs.internal.Programs.{IsListingOf};
 
 use crate::modules::{Shared, put_module};
 use crate::named::names_of;
-use crate::views::{ModuleView, all_marks, views_of};
+use crate::view::ModuleView;
+use crate::views::{all_marks, views_of};
 use std::alloc::{AllocError, Global};
 use tool::{Built, Source};
 
@@ -35,13 +36,13 @@ fn listing_in(alloc: Global, built: &Built, views: &[ModuleView]) -> Result<Vec<
 }
 
 /// The listing of a program that was built from these sources: their lines, each with the code of what begins there.
-#[tactic(auto, using(crate::proofs::ViewsMade::program_sources, crate::proofs::ProgramLists::program_listed))]
+#[tactic(auto, using(crate::proofs::ProgramLists::program_listed))]
 pub fn listing_of(alloc: Global, built: &Built, sources: &[Source]) -> Result<Vec<u8>, AllocError>
     requires few { length sources.now ≤ MOST_SOURCES }
     requires program { IsProgramOf (texts_of sources.now) (program_modules built.now.program) }
     ensures listed { IfOk result (λ lines. ListsProgram (texts_of sources.now) built.now lines.items) }
 {
-    let marks = all_marks(alloc, sources)?;
+    let marks = all_marks(alloc, built, sources)?;
     let views = views_of(alloc, built, sources, marks.as_slice())?;
     let lines = listing_in(alloc, built, views.as_slice())?;
     Ok(lines)

@@ -15,7 +15,8 @@ use crate::code_places::{address_of, expect_in_code};
 use crate::places::{put_address, put_range};
 use crate::procedures::{code_of, procedure_at, procedure_with};
 use crate::text_lines::line_count;
-use crate::views::{ModuleView, all_marks, views_of};
+use crate::view::ModuleView;
+use crate::views::{all_marks, views_of};
 use object_modules::Name;
 use std::alloc::{AllocError, Global};
 use std::io;
@@ -291,13 +292,13 @@ fn symbols_in(alloc: Global, views: &[ModuleView]) -> Result<Vec<u8>, AllocError
 }
 
 /// The symbols of a program that was built from these sources: its procedures, its variables and the lines of its code.
-#[tactic(auto, using(crate::proofs::ViewsMade::program_sources, crate::proofs::SymbolTexts::program_symbols))]
+#[tactic(auto, using(crate::proofs::SymbolTexts::program_symbols))]
 pub fn symbols_of(alloc: Global, built: &Built, sources: &[Source]) -> Result<Vec<u8>, AllocError>
     requires few { length sources.now ≤ MOST_SOURCES }
     requires program { IsProgramOf (texts_of sources.now) (program_modules built.now.program) }
     ensures symbols { IfOk result (λ lines. SymbolsOfProgram (texts_of sources.now) built.now lines.items) }
 {
-    let marks = all_marks(alloc, sources)?;
+    let marks = all_marks(alloc, built, sources)?;
     let views = views_of(alloc, built, sources, marks.as_slice())?;
     let lines = symbols_in(alloc, views.as_slice())?;
     Ok(lines)

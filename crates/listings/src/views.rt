@@ -1,38 +1,29 @@
 //! Modules of a program that was built.
 
-ghost use Rattle.std.specs.Prelude.{◌≡◌, ◌<◌, ◌≤◌, All, IfOk, length};
+ghost use Rattle.std.specs.Prelude.{◌≡◌, ◌<◌, ◌≤◌, IfOk, length};
 ghost use Rattle.sources.specs.Programs.{IsProgramOf, program_modules, texts_of};
-ghost use Rattle.sources.specs.Reading.{IsSource};
 ghost use Rattle.sources.specs.declared.sources.TheConstants.{MOST_SOURCES};
+ghost use Rattle.listings.specs.internal.Marks.{AreMarksOf};
 ghost use Rattle.listings.specs.internal.Programs.{AreViews, IsViewAt};
 
-use object_modules::{ObjectModule, Segment};
-use placing::ModulePlacement;
+use crate::view::ModuleView;
+use object_modules::Segment;
 use std::alloc::{AllocError, Global};
 use tool::{Built, Source, SourceMarks, marks_of};
-use typed_trees::Typed;
 
-/// A module of a program: its text, its tables, where its segments and objects lie, and where its code comes from.
-#[derive(Clone, Copy)]
-pub(crate) struct ModuleView<'s, 'b, 'm> {
-    pub(crate) text: &'s [u8],
-    pub(crate) typed: &'b Typed,
-    pub(crate) object: &'b ObjectModule,
-    pub(crate) placed: &'b ModulePlacement,
-    pub(crate) marks: &'m SourceMarks,
-    /// The addresses of its segments, 65536 at most.
-    pub(crate) code_base: u32,
-    pub(crate) data_base: u32,
-}
-
-/// Where the code of each source comes from, in the order of the sources.
-pub(crate) fn all_marks(alloc: Global, sources: &[Source]) -> Result<Vec<SourceMarks>, AllocError>
-    requires sources { All IsSource (texts_of sources.now) }
-    ensures { IfOk result (λ all. length all.items ≡ length sources.now) }
+/// Where the code of each module of a program comes from, in the order of its sources.
+pub(crate) fn all_marks(
+    alloc: Global,
+    built: &Built,
+    sources: &[Source],
+) -> Result<Vec<SourceMarks>, AllocError>
+    requires program { IsProgramOf (texts_of sources.now) (program_modules built.now.program) }
+    ensures { IfOk result (λ all. AreMarksOf built.now.objects all.items) }
 {
+    let marks = built.marks();
     let mut all = Vec::new(alloc);
-    for source in sources {
-        all.push(marks_of(alloc, source.text)?)?;
+    for (number, source) in sources.iter().enumerate() {
+        all.push(marks_of(alloc, source.text, marks[number].as_slice())?)?;
     }
     Ok(all)
 }
@@ -48,7 +39,7 @@ fn view_of<'s, 'b, 'm>(
 ) -> ModuleView<'s, 'b, 'm>
     requires number { number < length built.now.objects }
     requires as_many { length sources.now ≡ length built.now.objects }
-    requires marked { length marks.now ≡ length sources.now }
+    requires marked { AreMarksOf built.now.objects marks.now }
     ensures { IsViewAt (texts_of sources.now) built.now number code_base data_base result }
 {
     ModuleView {
@@ -72,7 +63,7 @@ pub(crate) fn views_of<'s, 'b, 'm>(
 ) -> Result<Vec<ModuleView<'s, 'b, 'm>>, AllocError>
     requires few { length sources.now ≤ MOST_SOURCES }
     requires program { IsProgramOf (texts_of sources.now) (program_modules built.now.program) }
-    requires marked { length marks.now ≡ length sources.now }
+    requires marked { AreMarksOf built.now.objects marks.now }
     ensures { IfOk result (λ views. AreViews (texts_of sources.now) built.now views.items) }
 {
     let plan = built.plan();

@@ -8,3 +8,4 @@ pub mod ProcedureLoops
 pub mod RowLoops
 pub mod RowLaws
 pub mod MainModules
+pub mod Marked

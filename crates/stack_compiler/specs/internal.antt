@@ -8,3 +8,4 @@ pub mod Openings
 pub mod Sequences
 pub mod Rows
 pub mod MainCode
+pub mod Marked

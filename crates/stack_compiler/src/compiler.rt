@@ -1,6 +1,6 @@
 //! Compiling a program.
 
-ghost use Rattle.std.specs.Prelude.{◌≡◌, map, IfOk};
+ghost use Rattle.std.specs.Prelude.{◌≡◌, ◌<◌, length, map, Some, IfOk};
 ghost use Rattle.typed_trees.specs.Views.{module_view};
 ghost use Rattle.layout.specs.Joined.{is_main};
 ghost use Rattle.meaning.specs.Run.{number_of_main};
@@ -9,8 +9,9 @@ ghost use Rattle.placing.specs.Views.{placement_view};
 ghost use Rattle.stack_code.specs.internal.Code.{program_code};
 ghost use Rattle.stack_compiler.specs.internal.Compiled.{IsCompiled};
 ghost use Rattle.stack_compiler.specs.internal.MainCode.{IsCodeOf};
+ghost use Rattle.stack_compiler.specs.internal.Marked.{AreMarksOf, AreOfModules, first_place};
 
-use crate::marking::{Marks, StackMark};
+use crate::marking::{Marks, ProgramMarks, StackMark};
 use crate::procedures::{emit_main, emit_modules};
 use crate::tables::tables_of;
 use join::Joined;
@@ -30,7 +31,8 @@ fn is_main(typed: &Typed) -> bool
 // The number of the main module, or 0 where no module has statements at its outer level.
 #[tactic(auto, using(crate::proofs::MainModules::main_found, crate::proofs::MainModules::main_passed, crate::proofs::MainModules::no_main, crate::proofs::MainModules::main_is))]
 fn number_of_main(modules: &[Typed]) -> usize
-    ensures { result ≡ number_of_main (map module_view modules.now) }
+    ensures number { result ≡ number_of_main (map module_view modules.now) }
+    ensures within { 0 < length modules.now → result < length modules.now }
 {
     for (number, typed) in modules.iter().enumerate() {
         if is_main(typed) {
@@ -45,26 +47,25 @@ fn number_of_main(modules: &[Typed]) -> usize
 fn code_with_main(
     alloc: Global,
     program: &Program<'_>,
-    marks: &mut Marks,
+    of_main: &mut Marks,
+    marks: &mut ProgramMarks,
     number: usize,
     main: &Typed,
 ) -> Result<Vec<Instruction>, AllocError>
-    ensures { IfOk result (λ code. code.items ≡ program_code (map module_view program.now.modules.now)
+    requires marks { AreMarksOf (length program.now.modules.now) marks.old }
+    ensures code { IfOk result (λ code. code.items ≡ program_code (map module_view program.now.modules.now)
         (placement_view program.now.placement.now) number (module_view main.now)) }
+    ensures marks { IfOk result (λ code. AreMarksOf (length program.now.modules.now) marks.new) }
 {
     let mut code = Vec::new(alloc);
-    emit_main(alloc, program, &mut code, marks, number, main)?;
+    emit_main(alloc, program, &mut code, of_main, number, main)?;
     emit_modules(alloc, program, &mut code, marks)?;
     Ok(code)
 }
 
 // The code of a program, nothing where it has no modules.
 #[tactic(auto, using(crate::proofs::MainModules::code_made, crate::proofs::MainModules::code_of_none))]
-fn code_of(
-    alloc: Global,
-    program: &Program<'_>,
-    marks: &mut Marks,
-) -> Result<Vec<Instruction>, AllocError>
+fn code_of(alloc: Global, program: &Program<'_>) -> Result<Vec<Instruction>, AllocError>
     ensures { IfOk result (λ code. IsCodeOf (map module_view program.now.modules.now)
         (placement_view program.now.placement.now) code.items) }
 {
@@ -72,7 +73,9 @@ fn code_of(
     let number = number_of_main(modules);
     match modules.get(number) {
         Some(main) => {
-            let code = code_with_main(alloc, program, marks, number, main)?;
+            let mut of_main = Marks::new(alloc, false);
+            let mut marks = ProgramMarks::new(alloc, false, number);
+            let code = code_with_main(alloc, program, &mut of_main, &mut marks, number, main)?;
             Ok(code)
         }
         None => Ok(Vec::new(alloc)),
@@ -103,9 +106,7 @@ fn compile_program(alloc: Global, program: &Program<'_>) -> Result<StackProgram,
     ensures { IfOk result (IsCompiled (map module_view program.now.modules.now)
         (placement_view program.now.placement.now)) }
 {
-    let mut marks = Marks::new(alloc, false);
-    let instructions = code_of(alloc, program, &mut marks)?;
-    drop(marks);
+    let instructions = code_of(alloc, program)?;
     with_tables(alloc, program, instructions)
 }
 
@@ -122,15 +123,53 @@ pub fn compile(
     compile_program(alloc, &program)
 }
 
-/// Where the parts of the code that `compile` makes of a program begin, in the order of the code.
+// The marks of the code of a program whose main module has a number.
+#[tactic(auto, using(crate::proofs::Marked::program_marked))]
+fn marks_with_main(
+    alloc: Global,
+    program: &Program<'_>,
+    number: usize,
+    main: &Typed,
+) -> Result<Vec<StackMark>, AllocError>
+    requires number { number < length program.now.modules.now }
+    ensures of_modules { IfOk result (λ marks.
+        AreOfModules (length program.now.modules.now) marks.items) }
+    ensures begins { IfOk result (λ marks. first_place marks.items ≡ Some 0) }
+{
+    let mut of_main = Marks::new(alloc, true);
+    let mut marks = ProgramMarks::new(alloc, true, number);
+    let code = code_with_main(alloc, program, &mut of_main, &mut marks, number, main)?;
+    drop(code);
+    marks.with_main(alloc, &of_main)
+}
+
+// The marks of the code of a program, none where it has no modules.
+fn marks_of(alloc: Global, program: &Program<'_>) -> Result<Vec<StackMark>, AllocError>
+    ensures of_modules { IfOk result (λ marks.
+        AreOfModules (length program.now.modules.now) marks.items) }
+    ensures begins { 0 < length program.now.modules.now →
+        IfOk result (λ marks. first_place marks.items ≡ Some 0) }
+{
+    let modules = program.modules;
+    let number = number_of_main(modules);
+    match modules.get(number) {
+        Some(main) => marks_with_main(alloc, program, number, main),
+        None => Ok(Vec::new(alloc)),
+    }
+}
+
+/// Where the parts of the code that `compile` makes of a program begin, in the order of the code. Each is in a module of the
+/// program, and the first one is at the start of the code.
 pub fn stack_marks(
     alloc: Global,
     joined: &Joined,
     placement: &Placement,
-) -> Result<Vec<StackMark>, AllocError> {
+) -> Result<Vec<StackMark>, AllocError>
+    ensures of_modules { IfOk result (λ marks. AreOfModules (length (modules_of joined.now)) marks.items) }
+    ensures begins { 0 < length (modules_of joined.now) →
+        IfOk result (λ marks. first_place marks.items ≡ Some 0) }
+{
     let program = Program::new(alloc, joined, placement)?;
-    let mut marks = Marks::new(alloc, true);
-    let code = code_of(alloc, &program, &mut marks)?;
-    drop(code);
-    Ok(marks.into_list())
+    let marks = marks_of(alloc, &program)?;
+    Ok(marks)
 }

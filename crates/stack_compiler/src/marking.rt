@@ -1,12 +1,16 @@
 //! Where the parts of the code of a program begin.
 
-use crate::site::Site;
+ghost use Rattle.std.specs.Prelude.{◌≡◌, ◌++◌, map, OnOk};
+ghost use Rattle.stack_compiler.specs.internal.Marked.{later_by, stack_mark};
+
 use stack_code::Instruction;
 use std::alloc::{AllocError, Global};
 
 /// A part of the code of a program.
 #[derive(Clone, Copy)]
 pub enum StackPart {
+    /// The beginning of the main program.
+    Main,
     /// The beginning of a procedure, by its number in its module.
     Procedure(usize),
     /// A statement, and what comes after it up to the next part, by its number in its module; or the code of a loop after its
@@ -23,19 +27,22 @@ pub struct StackMark {
     pub place: usize,
 }
 
-/// The marks of code that grows at its end, in the order of the code, if they are wanted.
+/// Where a part of the code of one module begins.
+#[derive(Clone, Copy)]
+pub(crate) struct PartMark {
+    pub(crate) part: StackPart,
+    pub(crate) place: usize,
+}
+
+/// The marks of code of one module that grows at its end, in the order of the code, if they are wanted: of its procedures, or
+/// of the main program.
 #[derive(Drop)]
 pub(crate) struct Marks {
     is_wanted: bool,
-    list: Vec<StackMark>,
+    list: Vec<PartMark>,
     /// The index of the mark of the code of a loop after its body, which gets the number of the loop where that ends.
     after_body: Option<usize>,
-    /// The module of the main program, which comes first, and how many of the marks that has.
-    main_module: usize,
-    of_main: usize,
-    /// How many statements the procedures of that module have.
-    before_main: usize,
-    /// How many statements are complete: of the main program, and then of the procedures of a module.
+    /// How many statements are complete.
     statements: usize,
     /// Where the instructions that are made now will begin in the code.
     base: usize,
@@ -47,21 +54,53 @@ pub(crate) struct OpenStatement {
     index: usize,
 }
 
+/// The marks of the procedures of a program, in the order of the code, if they are wanted.
+#[derive(Drop)]
+pub(crate) struct ProgramMarks {
+    is_wanted: bool,
+    list: Vec<StackMark>,
+    /// The module of the main program, and how many statements its procedures have.
+    main_module: usize,
+    before_main: usize,
+}
+
 // A part whose number, if it is a statement, is greater by a count.
-fn later_by(count: usize, part: StackPart) -> StackPart {
+fn later_by(count: usize, part: StackPart) -> StackPart
+    ensures { result ≡ later_by count part }
+{
     match part {
+        StackPart::Main => StackPart::Main,
         StackPart::Procedure(number) => StackPart::Procedure(number),
         StackPart::Statement(number) => StackPart::Statement(number.saturating_add(count)),
     }
 }
 
-// Counts the statements of the first `of_main` marks, those of the main program, after so many others.
-fn number_main(marks: &mut Vec<StackMark>, of_main: usize, before: usize) {
-    for index in 0..of_main {
-        if let Some(mark) = marks.get_mut(index) {
-            mark.part = later_by(before, mark.part);
-        }
+// The mark of a part of a module whose statements come after so many others.
+fn stack_mark(number_of_module: usize, before: usize, mark: PartMark) -> StackMark
+    ensures { result ≡ stack_mark number_of_module before mark }
+{
+    StackMark {
+        part: later_by(before, mark.part),
+        number_of_module,
+        place: mark.place,
     }
+}
+
+// Adds the marks of parts of a module whose statements come after so many others.
+#[tactic(auto, using(crate::proofs::Marked::mark_added, crate::proofs::Marked::marks_added))]
+fn add_marks(
+    list: &mut Vec<StackMark>,
+    number_of_module: usize,
+    before: usize,
+    marks: &[PartMark],
+) -> Result<(), AllocError>
+    ensures { OnOk result (list.new.items
+        ≡ list.old.items ++ map (stack_mark number_of_module before) marks.now) }
+{
+    for mark in marks {
+        list.push(stack_mark(number_of_module, before, *mark))?;
+    }
+    Ok(())
 }
 
 impl Marks {
@@ -71,9 +110,6 @@ impl Marks {
             is_wanted,
             list: Vec::new(alloc),
             after_body: None,
-            main_module: 0,
-            of_main: 0,
-            before_main: 0,
             statements: 0,
             base: 0,
         }
@@ -82,14 +118,12 @@ impl Marks {
     /// Adds the mark of a part whose code comes next, after this code.
     pub(crate) fn put(
         &mut self,
-        site: &Site<'_>,
         code: &Vec<Instruction>,
         part: StackPart,
     ) -> Result<(), AllocError> {
         if self.is_wanted {
-            self.list.push(StackMark {
+            self.list.push(PartMark {
                 part,
-                number_of_module: site.number_of_module,
                 place: self.base.saturating_add(code.len()),
             })?;
         }
@@ -99,22 +133,17 @@ impl Marks {
     /// Adds the mark of a statement whose code comes next, after this code. Its number is that of its end.
     pub(crate) fn begin_statement(
         &mut self,
-        site: &Site<'_>,
         code: &Vec<Instruction>,
     ) -> Result<OpenStatement, AllocError> {
         let index = self.list.len();
-        self.put(site, code, StackPart::Statement(0))?;
+        self.put(code, StackPart::Statement(0))?;
         Ok(OpenStatement { index })
     }
 
     /// Adds the mark of the code of a loop after its body. No other statement begins before the loop ends.
-    pub(crate) fn end_body(
-        &mut self,
-        site: &Site<'_>,
-        code: &Vec<Instruction>,
-    ) -> Result<(), AllocError> {
+    pub(crate) fn end_body(&mut self, code: &Vec<Instruction>) -> Result<(), AllocError> {
         let index = self.list.len();
-        self.put(site, code, StackPart::Statement(0))?;
+        self.put(code, StackPart::Statement(0))?;
         self.after_body = Some(index);
         Ok(())
     }
@@ -148,36 +177,70 @@ impl Marks {
     pub(crate) fn leave(&mut self, base: usize) {
         self.base = base;
     }
+}
 
-    /// Ends the main program of a module.
-    pub(crate) fn end_main(&mut self, site: &Site<'_>) {
-        self.main_module = site.number_of_module;
-        self.of_main = self.list.len();
-        self.statements = 0;
-    }
+impl ProgramMarks {
+    ghost use Rattle.std.specs.Prelude.{◌≡◌, ◌++◌, ◌∷◌, [], map, IfOk, OnOk};
+    ghost use Rattle.stack_compiler.specs.internal.Marked.{main_mark, stack_mark};
 
-    /// Ends the procedures of a module.
-    pub(crate) fn end_module(&mut self, site: &Site<'_>) {
-        if site.number_of_module == self.main_module {
-            self.before_main = self.statements;
+    /// No marks of a program with the main program in this module. Where none are wanted none are added.
+    pub(crate) fn new(alloc: Global, is_wanted: bool, main_module: usize) -> ProgramMarks
+        ensures list { result.list.items ≡ [] }
+        ensures main { result.main_module ≡ main_module }
+    {
+        ProgramMarks {
+            is_wanted,
+            list: Vec::new(alloc),
+            main_module,
+            before_main: 0,
         }
-        self.statements = 0;
     }
 
-    /// The marks, with the numbers of statements in their modules.
-    pub(crate) fn into_list(self) -> Vec<StackMark> {
-        let Marks {
-            is_wanted: _,
-            list,
-            after_body: _,
-            main_module: _,
-            of_main,
-            before_main,
-            statements: _,
-            base: _,
-        } = self;
-        let mut list = list;
-        number_main(&mut list, of_main, before_main);
-        list
+    /// No marks of a module yet.
+    pub(crate) fn of_module(&self, alloc: Global) -> Marks {
+        Marks::new(alloc, self.is_wanted)
+    }
+
+    /// Adds the marks of the procedures of a module.
+    pub(crate) fn add_module(
+        &mut self,
+        number_of_module: usize,
+        marks: &Marks,
+    ) -> Result<(), AllocError>
+        ensures list { OnOk result (self.new.list.items
+            ≡ self.old.list.items ++ map (stack_mark number_of_module 0) marks.now.list.items) }
+        ensures main { self.new.main_module ≡ self.old.main_module }
+    {
+        if number_of_module == self.main_module {
+            self.before_main = marks.statements;
+        }
+        add_marks(&mut self.list, number_of_module, 0, marks.list.as_slice())
+    }
+
+    /// All marks: first the beginning of the main program, with which the code begins, and its statements, which are counted
+    /// after those of the procedures of its module.
+    pub(crate) fn with_main(
+        &self,
+        alloc: Global,
+        main: &Marks,
+    ) -> Result<Vec<StackMark>, AllocError>
+        ensures { IfOk result (λ list. list.items ≡ main_mark self.now.main_module
+            ∷ map (stack_mark self.now.main_module self.now.before_main) main.now.list.items
+            ++ self.now.list.items) }
+    {
+        let mut list = Vec::new(alloc);
+        list.push(StackMark {
+            part: StackPart::Main,
+            number_of_module: self.main_module,
+            place: 0,
+        })?;
+        add_marks(
+            &mut list,
+            self.main_module,
+            self.before_main,
+            main.list.as_slice(),
+        )?;
+        list.extend_from_slice(self.list.as_slice())?;
+        Ok(list)
     }
 }

@@ -1,14 +1,15 @@
 //! The code of procedures and modules.
 
-ghost use Rattle.std.specs.Prelude.{◌≡◌, ◌++◌, map, OnOk};
+ghost use Rattle.std.specs.Prelude.{◌≡◌, ◌++◌, length, map, OnOk};
 ghost use Rattle.typed_trees.specs.Views.{module_view, procedure_view};
 ghost use Rattle.placing.specs.Views.{placement_view};
 ghost use Rattle.meaning.specs.Access.{home_of};
 ghost use Rattle.stack_code.specs.internal.Code.{main_code, parameter_code, parameters_code, procedure_code, surroundings_at};
+ghost use Rattle.stack_compiler.specs.internal.Marked.{AreMarksOf};
 ghost use Rattle.stack_compiler.specs.internal.Sequences.{modules_code_from, procedures_code_from};
 ghost use Rattle.stack_compiler.specs.internal.Sites.{site_view};
 
-use crate::marking::{Marks, StackPart};
+use crate::marking::{Marks, ProgramMarks, StackPart};
 use crate::purpose::{emit, emit_all};
 use crate::site::Site;
 use crate::statements::emit_list;
@@ -72,7 +73,7 @@ fn emit_procedure(
     ensures { OnOk result (code.new.items ≡ code.old.items
         ++ procedure_code (site_view site.now) (number, procedure_view procedure.now)) }
 {
-    marks.put(site, code, StackPart::Procedure(number))?;
+    marks.put(code, StackPart::Procedure(number))?;
     emit(
         code,
         Instruction::Begin {
@@ -125,11 +126,13 @@ pub(crate) fn emit_modules(
     alloc: Global,
     program: &Program<'_>,
     code: &mut Vec<Instruction>,
-    marks: &mut Marks,
+    marks: &mut ProgramMarks,
 ) -> Result<(), AllocError>
-    ensures { OnOk result (code.new.items ≡ code.old.items
+    requires marks { AreMarksOf (length program.now.modules.now) marks.old }
+    ensures code { OnOk result (code.new.items ≡ code.old.items
         ++ modules_code_from (map module_view program.now.modules.now)
         (placement_view program.now.placement.now) 0 (map module_view program.now.modules.now)) }
+    ensures marks { OnOk result (AreMarksOf (length program.now.modules.now) marks.new) }
 {
     let modules = program.modules;
     for (number_of_module, typed) in modules.iter().enumerate() {
@@ -138,8 +141,9 @@ pub(crate) fn emit_modules(
             program: &*program,
             number_of_module,
         };
-        emit_module(&site, code, marks, typed)?;
-        marks.end_module(&site);
+        let mut of_module = marks.of_module(alloc);
+        emit_module(&site, code, &mut of_module, typed)?;
+        marks.add_module(number_of_module, &of_module)?;
     }
     Ok(())
 }
@@ -164,6 +168,5 @@ pub(crate) fn emit_main(
         number_of_module,
     };
     emit_list(&site, code, marks, &typed.main.body)?;
-    marks.end_main(&site);
     emit(code, Instruction::Halt)
 }

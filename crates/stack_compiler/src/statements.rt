@@ -205,7 +205,7 @@ pub(crate) fn emit_statement(
     ensures { OnOk result (code.new.items
         ≡ code.old.items ++ statement_code (site_view site.now) (statement_view statement.now)) }
 {
-    let open = marks.begin_statement(site, code)?;
+    let open = marks.begin_statement(code)?;
     emit_kind(site, code, marks, statement)?;
     marks.end_statement(open);
     Ok(())
@@ -332,7 +332,7 @@ fn emit_while(
     let start = next_place(code);
     emit(code, Instruction::Jump(0))?;
     emit_list(site, code, marks, &turns.body)?;
-    marks.end_body(site, code)?;
+    marks.end_body(code)?;
     close_jump(code, start);
     emit_expression(site, code, &turns.condition)?;
     emit_loop_back(code, start)
@@ -354,7 +354,7 @@ fn emit_iterate(
     let start = next_place(code);
     emit(code, Instruction::Jump(0))?;
     emit_list(site, code, marks, &turns.body)?;
-    marks.end_body(site, code)?;
+    marks.end_body(code)?;
     emit_stepping(site, code, &turns.head)?;
     let leave = next_place(code);
     emit(code, Instruction::JumpUnless(0))?;

@@ -4,6 +4,7 @@ use Rattle.failure.specs.{Failure.{IfFault}, declared.Failure.{Failure, TheVaria
 use Rattle.treecode.specs.{declared.module.TreeModule.{TreeModule}, internal.Lowered.{IsLowered}}
 use Rattle.codegen8080.specs.internal.Names.{IsLinkable}
 use Rattle.codegen8080.specs.declared.fault.Fault as code_fault
+use Rattle.codegen8080.specs.declared.module.Generated.{Generated}
 unfoldable use Rattle.generation.specs.internal.TreeCode.{KeepsNames}
 use Rattle.sources.specs.GlobalNames.{GlobalNamesDiffer}
 use Rattle.sources.specs.declared.sources.Source as declared_source
@@ -47,8 +48,8 @@ made_of typed tree object code made = made typed code
 pub generation_refused : (file : ℕ) (typed : TypedModule) (tree : TreeModule)
     (failure : Failure code_fault.Fault)
     → IsSoundTreeCode typed tree
-    → IfFault {A = ObjectModule} (Err failure) (MakesNone tree)
-    → IfFault {A = ObjectModule} (Err (failure_of_code file failure)) (HasGenerationCause file typed)
+    → IfFault {A = Generated} (Err failure) (MakesNone tree)
+    → IfFault {A = Generated} (Err (failure_of_code file failure)) (HasGenerationCause file typed)
 generation_refused file typed tree (Fault fault) code none = (refl, none typed code)
 generation_refused file typed tree Memory code none = tt
 

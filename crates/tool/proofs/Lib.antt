@@ -4,3 +4,4 @@ pub mod LinkedLemmas
 pub mod ExecutionLemmas
 pub mod CompiledLemmas
 pub mod SourcesLemmas
+pub mod Lined

@@ -11,6 +11,7 @@ pub use Rattle.generation.specs.MemoryAtEnd
 pub mod Image
 pub mod Headline
 pub mod Made
+pub mod Marks
 pub mod Construction
 pub mod Execution
 pub mod Printed

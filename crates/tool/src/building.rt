@@ -11,6 +11,7 @@ ghost use Rattle.sources.specs.Programs.{IsProgramOf, program_modules, text_of, 
 ghost use Rattle.tool.specs.Construction.{IsConstruction};
 ghost use Rattle.tool.specs.Headline.{DoesWhatItSays};
 ghost use Rattle.tool.specs.Made.{code_lengths};
+ghost use Rattle.tool.specs.Marks.{LieInEach};
 ghost use Rattle.tool.specs.Sources.{HasCause, IsInOrder};
 ghost use Rattle.tool.specs.Refusals.{IsRefusedBy};
 ghost use Rattle.tool.specs.internal.Compiling.{HasBuildCause, IsBuiltFrom};
@@ -66,6 +67,7 @@ fn build_program(alloc: Global, parts: Parts, plan: &Plan) -> Result<Built, Fail
         ≡ map (λ typed. storage_with (module_view typed)) parts.modules.items }
     requires lengths { parts.lengths.items ≡ code_lengths parts.objects.items }
     requires made { AreSoundlyMade (map module_view parts.modules.items) parts.objects.items }
+    requires marked { LieInEach parts.objects.items parts.marks.items }
     ensures program { IfOk result (IsBuiltFrom (map module_view parts.modules.items) plan.now) }
     ensures refused { IfFault result
         (λ fault. HasBuildCause fault (map module_view parts.modules.items) parts.lengths.items plan.now) }
@@ -75,6 +77,7 @@ fn build_program(alloc: Global, parts: Parts, plan: &Plan) -> Result<Built, Fail
         storages,
         objects,
         lengths,
+        marks,
     } = parts;
     let placed = match place_program(
         alloc,
@@ -88,5 +91,5 @@ fn build_program(alloc: Global, parts: Parts, plan: &Plan) -> Result<Built, Fail
         Err(Failure::Memory) => return Err(Failure::Memory),
     };
     let image = image_of(alloc, objects.as_slice(), plan)?;
-    Ok(Built::new(placed, *plan, objects, image))
+    Ok(Built::new(placed, *plan, objects, image, marks))
 }

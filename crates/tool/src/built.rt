@@ -3,8 +3,10 @@
 ghost use Rattle.std.specs.Prelude.{◌≡◌};
 ghost use Rattle.placing.specs.Views.{placement_view};
 ghost use Rattle.tool.specs.Construction.{IsConstruction};
+ghost use Rattle.tool.specs.Marks.{LieInEach};
 ghost use Rattle.tool.specs.internal.Inside.{IsMadeConstruction, construction_with};
 
+use codegen8080::Mark;
 use join::Joined;
 use locate::Absolute;
 use mem80::Plan;
@@ -13,7 +15,7 @@ use placing::Placement;
 use sources::Placed;
 use std::marker::Model;
 
-/// A program, where it lies, the object module of each of its modules, and its image.
+/// A program, where it lies, the object module of each of its modules, its image, and the marks of the code of each module.
 #[derive(Drop)]
 pub struct Built {
     program: Joined,
@@ -21,6 +23,7 @@ pub struct Built {
     placement: Placement,
     objects: Vec<ObjectModule>,
     image: Absolute,
+    marks: Vec<Vec<Mark>>,
 }
 
 impl Model for Built {
@@ -41,14 +44,16 @@ impl Model for Built {
 }
 
 impl Built {
-    // A program that was placed by a plan, with its object modules and its image.
+    // A program that was placed by a plan, with its object modules, its image and the marks of its modules.
     pub(crate) fn new(
         placed: Placed,
         plan: Plan,
         objects: Vec<ObjectModule>,
         image: Absolute,
+        marks: Vec<Vec<Mark>>,
     ) -> Built
-        requires { IsMadeConstruction (construction_with placed plan objects.items image) }
+        requires made { IsMadeConstruction (construction_with placed plan objects.items image) }
+        requires marked { LieInEach objects.items marks.items }
         ensures { result ≡ construction_with placed plan objects.items image }
     {
         let Placed { program, placement } = placed;
@@ -58,6 +63,7 @@ impl Built {
             placement,
             objects,
             image,
+            marks,
         }
     }
 
@@ -99,5 +105,13 @@ impl Built {
         ensures construction { IsConstruction self.now }
     {
         &self.image
+    }
+
+    /// Where the parts of the code of each of its modules begin, in the order of its modules.
+    pub fn marks(&self) -> &[Vec<Mark>]
+        ensures marked { LieInEach self.now.objects result.now }
+        ensures construction { IsConstruction self.now }
+    {
+        self.marks.as_slice()
     }
 }

@@ -6,6 +6,7 @@ ghost use Rattle.typed_trees.specs.Views.{module_view};
 ghost use Rattle.layout.specs.Storage.{storage_with};
 ghost use Rattle.layout.specs.Views.{layout_view};
 ghost use Rattle.sources.specs.Reading.{IsSourceOf};
+ghost use Rattle.codegen8080.specs.Marks.{LieInCode};
 ghost use Rattle.object_modules.specs.Module.{length_of};
 ghost use Rattle.object_modules.specs.declared.segment.Segment.TheVariants as segments;
 ghost use Rattle.generation.specs.internal.Typed.{IsSoundlyMade};
@@ -17,6 +18,7 @@ ghost use Rattle.tool.specs.Sources.{AreWithoutFault, HasCause, IsInOrder, IsRef
 ghost use Rattle.tool.specs.internal.Compiling.{AreCompiled, HasCompileCause, HasGenerationCause, HasSource, HasSourceCause, IsCompiled, failure_of_code};
 
 use crate::fault::ToolFault;
+use codegen8080::{Generated, Mark};
 use failure::Failure;
 use generation::{generate, lower};
 use layout::Layout;
@@ -26,11 +28,12 @@ use sources::{Source, SourceModule, read_source};
 use std::alloc::{AllocError, Global};
 use typed_trees::Typed;
 
-/// A source that is read, and its object module.
+/// A source that is read, its object module, and where the parts of the code of that begin.
 #[derive(Drop)]
 pub struct Compiled {
     pub source: SourceModule,
     pub object: ObjectModule,
+    pub marks: Vec<Mark>,
 }
 
 /// The object module of one source, which is the source 0 of its faults.
@@ -38,8 +41,13 @@ pub fn compile(alloc: Global, text: &[u8]) -> Result<ObjectModule, Failure<ToolF
     ensures compiled { IfOk result (IsCompiledTo text.now) }
     ensures refused { IfFault result (IsRefusedAlone text.now) }
 {
-    let Compiled { source, object } = compile_source(alloc, 0, text)?;
+    let Compiled {
+        source,
+        object,
+        marks,
+    } = compile_source(alloc, 0, text)?;
     drop(source);
+    drop(marks);
     Ok(object)
 }
 
@@ -74,24 +82,26 @@ fn read(alloc: Global, file: usize, text: &[u8]) -> Result<SourceModule, Failure
     }
 }
 
-// The object module of a source that is read.
-fn object_of(
+// The object module of a source that is read, and its marks.
+fn generated_of(
     alloc: Global,
     file: usize,
     source: &SourceModule,
-) -> Result<ObjectModule, Failure<ToolFault>>
+) -> Result<Generated, Failure<ToolFault>>
     requires source { HasSource (module_view source.now.typed) }
     requires sound { IsSoundlyTyped (module_view source.now.typed) }
     requires names { GlobalNamesDiffer (module_view source.now.typed) }
     requires storage { layout_view source.now.storage ≡ storage_with (module_view source.now.typed) }
-    ensures made { IfOk result (IsSoundlyMade (module_view source.now.typed)) }
+    ensures made { IfOk result
+        (λ generated. IsSoundlyMade (module_view source.now.typed) generated.object) }
+    ensures marked { IfOk result (λ generated. LieInCode generated.object generated.marks.items) }
     ensures refused { IfFault result (HasGenerationCause file (module_view source.now.typed)) }
 {
     let tree = lower(alloc, &source.typed, &source.storage)?;
     let generated = generate(alloc, &tree);
     drop(tree);
     match generated {
-        Ok(object) => Ok(object),
+        Ok(generated) => Ok(generated),
         Err(failure) => Err(of_code(file, failure)),
     }
 }
@@ -113,17 +123,22 @@ fn compile_source(alloc: Global, file: usize, text: &[u8]) -> Result<Compiled, F
     ensures refused { IfFault result (λ fault. HasCompileCause fault file text.now) }
 {
     let source = read(alloc, file, text)?;
-    let object = object_of(alloc, file, &source)?;
-    Ok(Compiled { source, object })
+    let Generated { object, marks } = generated_of(alloc, file, &source)?;
+    Ok(Compiled {
+        source,
+        object,
+        marks,
+    })
 }
 
-/// The modules of sources, the storage of each, its object module and the length of its code segment.
+/// The modules of sources, the storage of each, its object module, the length of its code segment and the marks of its code.
 #[derive(Drop)]
 pub struct Parts {
     pub modules: Vec<Typed>,
     pub storages: Vec<Layout>,
     pub objects: Vec<ObjectModule>,
     pub lengths: Vec<u32>,
+    pub marks: Vec<Vec<Mark>>,
 }
 
 impl Parts {
@@ -136,13 +151,19 @@ impl Parts {
         ensures objects { OnOk result (self.new.objects.items ≡ self.old.objects.items ++ one.object ∷ []) }
         ensures lengths { OnOk result
             (self.new.lengths.items ≡ self.old.lengths.items ++ length_of one.object segments.Code ∷ []) }
+        ensures marks { OnOk result (self.new.marks.items ≡ self.old.marks.items ++ one.marks ∷ []) }
     {
-        let Compiled { source, object } = one;
+        let Compiled {
+            source,
+            object,
+            marks,
+        } = one;
         self.lengths.push(object.length(Segment::Code) as u32)?;
         self.objects.push(object)?;
         let SourceModule { typed, storage } = source;
         self.modules.push(typed)?;
         self.storages.push(storage)?;
+        self.marks.push(marks)?;
         Ok(())
     }
 }
@@ -156,12 +177,14 @@ pub fn parts_of(alloc: Global, compiled: Vec<Compiled>) -> Result<Parts, AllocEr
     ensures objects { IfOk result (λ parts. parts.objects.items ≡ map (λ one. one.object) compiled.items) }
     ensures lengths { IfOk result
         (λ parts. parts.lengths.items ≡ map (λ one. length_of one.object segments.Code) compiled.items) }
+    ensures marks { IfOk result (λ parts. parts.marks.items ≡ map (λ one. one.marks) compiled.items) }
 {
     let mut parts = Parts {
         modules: Vec::new(alloc),
         storages: Vec::new(alloc),
         objects: Vec::new(alloc),
         lengths: Vec::new(alloc),
+        marks: Vec::new(alloc),
     };
     for one in compiled {
         parts.add(one)?;

@@ -1,14 +1,10 @@
 //! Where the code of a source comes from.
 
-ghost use Rattle.std.specs.Prelude.{IfOk};
-ghost use Rattle.typed_trees.specs.Views.{module_view};
+ghost use Rattle.std.specs.Prelude.{◌≡◌, map, IfOk};
 ghost use Rattle.sources.specs.Reading.{IsSource};
-ghost use Rattle.sources.specs.Sound.{IsSoundlyTyped};
 
-use codegen8080::{CodePart, Mark, code_marks};
-use failure::Failure;
-use generation::lower;
-use sources::{SourceLines, SourceModule, read_source, source_lines};
+use codegen8080::{CodePart, Mark};
+use sources::{SourceLines, source_lines};
 use std::alloc::{AllocError, Global};
 
 /// Where a part of the code of a module begins: its line in the source, or 0 if it is a routine, and its offset from the
@@ -51,57 +47,30 @@ fn line_of(lines: &SourceLines, part: CodePart) -> u32 {
 fn with_lines(
     alloc: Global,
     lines: &SourceLines,
-    places: &[Mark],
-) -> Result<Vec<SourceMark>, AllocError> {
-    let mut marks = Vec::with_capacity(alloc, places.len())?;
-    for mark in places {
-        marks.push(SourceMark {
+    marks: &[Mark],
+) -> Result<Vec<SourceMark>, AllocError>
+    ensures { IfOk result
+        (λ lined. map (λ mark. mark.place) lined.items ≡ map (λ mark. mark.place) marks.now) }
+{
+    let mut lined = Vec::with_capacity(alloc, marks.len())?;
+    for mark in marks {
+        lined.push(SourceMark {
             part: mark.part,
             line: line_of(lines, mark.part),
             place: mark.place,
         })?;
     }
-    Ok(marks)
+    Ok(lined)
 }
 
-// Where the parts of the code of a module that was read begin.
-fn places_of(alloc: Global, source: &SourceModule) -> Result<Vec<Mark>, AllocError>
-    requires { IsSoundlyTyped (module_view source.now.typed) }
-{
-    let tree = lower(alloc, &source.typed, &source.storage)?;
-    let places = code_marks(alloc, &tree);
-    drop(tree);
-    match places {
-        Ok(places) => Ok(places),
-        // Memory ran out: a fault (G1) is one of `generate` too, which made the object module. No law says that both are of the
-        // same code.
-        Err(_) => Err(AllocError),
-    }
-}
-
-// A source that is read.
-fn read(alloc: Global, text: &[u8]) -> Result<SourceModule, AllocError>
+/// Where the parts of the code of a module begin, by the marks of its code, with their lines in the source of the module.
+pub fn marks_of(alloc: Global, text: &[u8], marks: &[Mark]) -> Result<SourceMarks, AllocError>
     requires source { IsSource text.now }
-    ensures { IfOk result (λ read. IsSoundlyTyped (module_view read.typed)) }
+    ensures { IfOk result
+        (λ found. map (λ mark. mark.place) found.marks.items ≡ map (λ mark. mark.place) marks.now) }
 {
-    match read_source(alloc, text) {
-        Ok(source) => Ok(source),
-        // A source has no fault, so that memory ran out.
-        Err(Failure::Memory) => Err(AllocError),
-        Err(Failure::Fault(_)) => unreachable!(),
-    }
-}
-
-/// Where the parts of the code that `build` makes of a source begin. The source is one of a program that was built: for one
-/// whose code is longer than a segment it is out of memory.
-pub fn marks_of(alloc: Global, text: &[u8]) -> Result<SourceMarks, AllocError>
-    requires source { IsSource text.now }
-{
-    let source = read(alloc, text)?;
-    let places = places_of(alloc, &source)?;
-    drop(source);
     let lines = source_lines(alloc, text)?;
-    let marks = with_lines(alloc, &lines, places.as_slice())?;
+    let marks = with_lines(alloc, &lines, marks)?;
     Ok(SourceMarks {
         marks,
         owners: lines.into_owners(),

@@ -11,17 +11,22 @@ use Rattle.exprgen8080.specs.internal.Emission.{module_routine_label}
 use Rattle.codegen8080.specs.declared.marking.CodePart.{CodePart}
 use Rattle.codegen8080.specs.declared.marking.Mark.{Mark}
 use Rattle.codegen8080.specs.declared.marking.Marks.{Marks}
+use Rattle.codegen8080.specs.declared.marking.Begun.{Begun}
 use Rattle.codegen8080.specs.internal.Marking.{routine_mark}
 
--- the place after the items that come after the last mark
-abbrev pub place_in : List Item → Marks → ℕ
-place_in items marks = min (marks.bytes + size_of_items (drop marks.items items)) 65535
-
--- a mark is put at the end of items
-pub record PutsMark (items : List Item) (part : CodePart) (before after : Marks) : Type 0 where
-  pub list : after.list.items ≡ before.list.items ++ record { part = part; place = place_in items before } ∷ []
+-- a part is put at the end of items, after those that come after the last part
+pub record PutsPart (items : List Item) (part : CodePart) (before after : Marks) : Type 0 where
+  pub list : after.list.items
+      ≡ before.list.items
+      ++ record { part = part; distance = min (size_of_items (drop before.items items)) 65535 } ∷ []
   pub counted : after.items ≡ length items
-  pub bytes : after.bytes ≡ place_in items before
+
+-- the marks of parts that come after a place, in code that ends at another
+abbrev pub marks_of_parts : (place end : ℕ) → List Begun → List Mark
+marks_of_parts place end [] = []
+marks_of_parts place end (part ∷ parts) =
+    record { part = part.part; place = min (place + part.distance) end }
+    ∷ marks_of_parts (min (place + part.distance) end) end parts
 
 -- the marks of routines, whose labels are those of the routines from an index on, in code with these labels
 abbrev pub marks_from :

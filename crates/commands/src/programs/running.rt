@@ -11,7 +11,7 @@ ghost use Rattle.commands.specs.Running.{PrintsBuilt, StopsBuilt};
 ghost use Rattle.commands.specs.internal.Outcomes.{EndsRun};
 
 use crate::image_runs::print_image;
-use crate::places::Places;
+use crate::places::{Places, ProgramLines};
 use crate::programs::interpreting::print_meaning;
 use crate::programs::map::print_map;
 use command_line::{Action, ProgramOrder, Settings};
@@ -78,7 +78,7 @@ fn print_program<O: Write>(
 
 // Prints what the image of a program does on a memory as values start it, and at which line it stood at its end, where that
 // is wanted. After a failure a beginning of that was printed.
-#[tactic(auto, using(crate::proofs::Printed::nothing_stops))]
+#[tactic(auto, using(crate::proofs::Printed::nothing_stops, crate::proofs::PlacesTold::its_lines))]
 fn print_run<O: Write>(
     alloc: Global,
     settings: &Settings,
@@ -103,6 +103,9 @@ fn print_run<O: Write>(
     let Ok(lines) = code_lines(alloc, built, sources) else {
         return Err(Failure::Memory);
     };
-    let places = Places::Lines(built.program(), &lines);
+    let places = Places::Lines(ProgramLines {
+        program: built.program(),
+        lines: &lines,
+    });
     print_image(alloc, image, settings, &places, outputs, out)
 }

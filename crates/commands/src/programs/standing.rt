@@ -1,6 +1,8 @@
 //! The lines at which programs stand that are interpreted.
 
-ghost use Rattle.std.specs.Prelude.{◌≡◌, All, IfOk, IfSome, true};
+ghost use Rattle.std.specs.Prelude.{◌≡◌, ◌<◌, length, All, Contains, IfOk, Some, true};
+ghost use Rattle.join.specs.Views.{modules_of};
+ghost use Rattle.interpreter.specs.internal.Marked.{first_place};
 ghost use Rattle.sources.specs.Programs.{IsProgramOf, program_modules, texts_of};
 ghost use Rattle.sources.specs.Reading.{IsSource};
 ghost use Rattle.commands.specs.Standing.{NamesLine, module_names};
@@ -13,69 +15,64 @@ use std::alloc::{AllocError, Global};
 use tool::{Built, Source};
 
 // The part of the code to which an instruction belongs: the last one that does not begin after it.
-fn part_at(marks: &[StackMark], at: usize) -> Option<StackMark> {
-    let mut last = None;
+fn part_at(marks: &[StackMark], at: usize) -> StackMark
+    requires begins { first_place marks.now ≡ Some 0 }
+    ensures { Contains marks.now result }
+{
+    let mut last = marks[0];
     for mark in marks {
         if mark.place > at {
             return last;
         }
-        last = Some(*mark);
+        last = *mark;
     }
     last
 }
 
-// The line at which a part of code begins, if there is such a part.
+// The line at which a part of code begins, if the tables of lines have one.
 fn line_of(lines: &SourceLines, part: StackPart) -> Option<u32> {
     match part {
+        StackPart::Main => Some(lines.module),
         StackPart::Procedure(number) => lines.procedures.get(number).copied(),
         StackPart::Statement(number) => lines.statements.get(number).copied(),
     }
 }
 
-// The line of the source of a mark, if it has one.
-fn marked_line(
-    alloc: Global,
-    sources: &[Source],
-    mark: StackMark,
-) -> Result<Option<u32>, AllocError>
+// The line of the source of a mark. Where the tables of lines have none it is out of memory.
+fn marked_line(alloc: Global, sources: &[Source], mark: StackMark) -> Result<u32, AllocError>
     requires sources { All IsSource (texts_of sources.now) }
+    requires within { mark.number_of_module < length sources.now }
 {
-    match sources.get(mark.number_of_module) {
-        Some(source) => {
-            let lines = source_lines(alloc, source.text)?;
-            Ok(line_of(&lines, mark.part))
-        }
-        None => Ok(None),
+    let lines = source_lines(alloc, sources[mark.number_of_module].text)?;
+    match line_of(&lines, mark.part) {
+        Some(line) => Ok(line),
+        // Each part has a line: no clause of `source_lines` says that its tables have an entry for each procedure and each
+        // statement of the module, and none of `stack_marks` that parts have numbers of these.
+        None => Err(AllocError),
     }
 }
 
-// The text of the line from which an instruction of the interpreter comes, if it comes from one.
-#[tactic(auto, using(listings::proofs::ViewsMade::program_sources))]
+// The text of the line from which an instruction of the interpreter comes.
 fn interpreted_text(
     alloc: Global,
     built: &Built,
     sources: &[Source],
     at: usize,
-) -> Result<Option<String>, AllocError>
-    requires program { IsProgramOf (texts_of sources.now) (program_modules built.now.program) }
-    ensures { IfOk result (λ found. IfSome found
-        (λ text. NamesLine (module_names built.now.program) text.bytes.items)) }
+) -> Result<String, AllocError>
+    requires sources { All IsSource (texts_of sources.now) }
+    requires as_many { length sources.now ≡ length (modules_of built.now.program) }
+    requires some { 0 < length (modules_of built.now.program) }
+    ensures { IfOk result (λ text. NamesLine (module_names built.now.program) text.bytes.items) }
 {
     let marks = stack_marks(alloc, built.program(), built.placement())?;
-    let Some(mark) = part_at(marks.as_slice(), at) else {
-        return Ok(None);
-    };
-    match marked_line(alloc, sources, mark)? {
-        Some(line) => {
-            let text = line_text(alloc, built.program(), mark.number_of_module, line)?;
-            Ok(Some(text))
-        }
-        None => Ok(None),
-    }
+    let mark = part_at(marks.as_slice(), at);
+    let line = marked_line(alloc, sources, mark)?;
+    line_text(alloc, built.program(), mark.number_of_module, line)
 }
 
 /// The text of the line of a program that was built from these sources from which an instruction of the interpreter comes,
-/// where that is wanted. For an instruction that comes from no line it is out of memory.
+/// where that is wanted.
+#[tactic(auto, using(listings::proofs::ViewsMade::program_sources, crate::proofs::StandingTold::source_of_each, crate::proofs::StandingTold::some_module))]
 pub(crate) fn text_of_line(
     alloc: Global,
     settings: &Settings,
@@ -90,9 +87,5 @@ pub(crate) fn text_of_line(
     if !settings.watch.place {
         return Ok(String::new(alloc));
     }
-    match interpreted_text(alloc, built, sources, at)? {
-        Some(text) => Ok(text),
-        // Each instruction comes from a line: no clause of `stack_marks` says so.
-        None => Err(AllocError),
-    }
+    interpreted_text(alloc, built, sources, at)
 }

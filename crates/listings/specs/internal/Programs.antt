@@ -19,7 +19,7 @@ use Rattle.listings.specs.declared.named.Named.{Named}
 use Rattle.listings.specs.declared.parts.Part.{Part}
 use Rattle.listings.specs.internal.Parts.{IsCodePart}
 use Rattle.listings.specs.internal.Views.{named_view}
-use Rattle.listings.specs.declared.views.ModuleView.{ModuleView}
+use Rattle.listings.specs.declared.view.ModuleView.{ModuleView}
 
 -- a module as the definitions have it: its text, its tables, its object module, and where its objects lie
 abbrev pub text_of : ModuleView → List ℕ

@@ -6,7 +6,7 @@ use Rattle.typed_trees.specs.TypedTrees.{TypedModule, TypedObject, TypedProcedur
 use Rattle.typed_trees.specs.Weight.{constant_bytes}
 use Rattle.listings.specs.Names.{IsInCode}
 use Rattle.listings.specs.Symbols.{AreCodeOf, AreOwnersOf, HasSymbols, is_own, object_line, procedure_line, source_line}
-use Rattle.listings.specs.declared.views.ModuleView.{ModuleView}
+use Rattle.listings.specs.declared.view.ModuleView.{ModuleView}
 use Rattle.listings.specs.internal.Programs.{code_size, object_of, placed_of, text_of, typed_of}
 
 -- the procedures that are not EXTERNAL

@@ -9,6 +9,7 @@ use Rattle.layout.specs.Views.{layout_view}
 use Rattle.layout.specs.Joined.{IsJoined}
 use Rattle.mem80.specs.declared.plan.Plan.{Plan}
 use Rattle.codegen8080.specs.declared.fault.Fault as code_fault
+use Rattle.codegen8080.specs.Marks.{LieInCode}
 use Rattle.sources.specs.Causes.{HasReadCause}
 use Rattle.sources.specs.Reading.{IsSourceOf}
 use Rattle.generation.specs.internal.Measured.{IsNotMade}
@@ -28,11 +29,12 @@ pub record HasSource (typed : TypedModule) : Type 0 where
   pub text : List ℕ
   pub source : IsSourceOf text typed
 
--- what a source is compiled to: its module, the storage of that, and an object module that is made of it
+-- what a source is compiled to: its module, the storage of that, an object module that is made of it, and marks in its code
 pub record IsCompiled (text : List ℕ) (compiled : Compiled) : Type 0 where
   pub source : IsSourceOf text (module_in compiled)
   pub storage : layout_view compiled.source.storage ≡ storage_with (module_in compiled)
   pub made : IsSoundlyMade (module_in compiled) compiled.object
+  pub marked : LieInCode compiled.object compiled.marks.items
 
 -- texts are compiled to these, one by one
 abbrev pub AreCompiled : List (List ℕ) → List Compiled → Type 0

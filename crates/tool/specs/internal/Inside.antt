@@ -9,6 +9,7 @@ use Rattle.sources.specs.Programs.{program_modules}
 use Rattle.sources.specs.declared.placed.Placed.{Placed}
 use Rattle.tool.specs.declared.built.Built.TheInside.{Inside}
 use Rattle.tool.specs.Construction.{Construction, IsConstruction}
+use Rattle.tool.specs.Marks.{LieInEach}
 
 abbrev pub construction_of : Inside → Construction
 construction_of b = record {
@@ -25,8 +26,9 @@ abbrev pub IsMadeConstruction : Construction → Type 0
 IsMadeConstruction built =
     IsConstruction built × AreSoundlyMade (program_modules built.program) built.objects
 
+-- what is built is such a construction, and has the marks of each object module
 abbrev pub IsConstructionInside : Inside → Type 0
-IsConstructionInside b = IsMadeConstruction (construction_of b)
+IsConstructionInside b = IsMadeConstruction (construction_of b) × LieInEach b.objects.items b.marks.items
 
 -- a program that was placed, with its object modules and its image
 abbrev pub construction_with : Placed → Plan → List ObjectModule → Absolute → Construction

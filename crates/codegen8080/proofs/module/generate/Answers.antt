@@ -1,4 +1,5 @@
-use Rattle.codegen8080.proofs.Prelude.{ap, length, rules, subst, ◌∙◌, Extends, NumbersNames, contents_items, AreListed}
+use Rattle.codegen8080.proofs.Prelude.{ap, length, Assembled, rules, subst, ◌∙◌, Extends, NumbersNames, contents_items, AreListed}
+use Rattle.codegen8080.proofs.Marked.{lie_in_code, marked, size_made}
 use Rattle.codegen8080.proofs.ObjectParts.{generated, made_of_same}
 use Rattle.codegen8080.proofs.Refused.{code_refused, data_refused}
 use Rattle.codegen8080.proofs.module.generate.Goals as goal
@@ -40,6 +41,24 @@ returns-clause-made c =
     c.into_bytes.ensures c.into_bytes-2.ensures c.into_parts-names.ensures.names
     (c.as_slice.ensures.value ∙ ap (λ table. table.items) c.into_parts-names.ensures.numbers)
     c.in_ok-object.ensures)
+
+pub returns-clause-marked : goal.returns-clause-marked
+returns-clause-marked c =
+    marked c.args.tree.now c.in_ok-writer.field-0.start.index c.in_ok-writer.field-0.writer
+    c.in_ok-code.code.bytes
+    c.in_ok-code.code.labels.items _ c.in_ok-marks.marks.items
+    c.in_ok-writer.ensures.written
+    c.in_ok-code.ensures.finishes c.in_ok-marks.ensures
+
+pub returns-clause-within : goal.returns-clause-within
+returns-clause-within c =
+    lie_in_code c.args.tree.now c.in_ok-writer.field-0.writer c.in_ok-code.code.bytes
+    c.in_ok-code.code.labels.items c.in_ok-writer.field-0.marks.list.items c.in_ok-marks.marks.items
+    c.in_ok-object.object
+    c.in_ok-code.ensures.finishes c.in_ok-marks.ensures
+    (size_made c.args.tree.now.name c.into_bytes.result c.into_bytes-2.result
+    _ c.as_slice.result.now c.start_of-start.result c.in_ok-object.object c.in_ok-object.ensures
+    ∙ ap (λ (bytes : Assembled). length bytes.bytes) c.into_bytes.ensures)
 
 pub returns-in_err-code-clause-refused : goal.returns-in_err-code-clause-refused
 returns-in_err-code-clause-refused c =

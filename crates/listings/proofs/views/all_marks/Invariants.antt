@@ -1,5 +1,7 @@
-use Rattle.listings.proofs.Prelude.{◌≡◌, length}
+use Rattle.listings.proofs.Prelude.{take}
+use Rattle.listings.specs.internal.Marks.{AreMarksOf}
 use Rattle.listings.proofs.views.all_marks.Given as goal
 
-abbrev pub invariant-loop-source : goal.invariant-loop-source
-invariant-loop-source l = length l.all.items ≡ l.source-index
+-- those of the first modules so far
+abbrev pub invariant-loop-number : goal.invariant-loop-number
+invariant-loop-number l = AreMarksOf (take l.number l.built.objects) l.all.items

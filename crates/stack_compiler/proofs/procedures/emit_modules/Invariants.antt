@@ -1,12 +1,13 @@
-use Rattle.stack_compiler.proofs.Prelude.{◌≡◌, ◌++◌, drop, map, module_view, placement_view, modules_code_from}
+use Rattle.stack_compiler.proofs.Prelude.{◌≡◌, ◌++◌, drop, length, map, module_view, placement_view, modules_code_from, AreMarksOf}
 use Rattle.stack_compiler.proofs.procedures.emit_modules.Given as goal
 
 abbrev pub invariant-loop-number_of_module : goal.invariant-loop-number_of_module
 invariant-loop-number_of_module l =
-    l.code.items
+    (l.code.items
     ++ modules_code_from (map module_view l.program.modules.now)
     (placement_view l.program.placement.now) l.number_of_module
     (map module_view (drop l.number_of_module l.modules))
     ≡ l.fn.code.items
     ++ modules_code_from (map module_view l.program.modules.now) (placement_view l.program.placement.now) 0
-    (map module_view l.modules)
+    (map module_view l.modules))
+    × AreMarksOf (length l.program.modules.now) l.marks

@@ -1,5 +1,5 @@
 use Rattle.tool.proofs.Prelude.{length, map, rules, length-map, module_view, texts_of, ToolFault, AreWithoutFault, HasCause, IsInOrder, HasBuildCause}
-use Rattle.tool.proofs.{CompiledLemmas.{handed_on, passed}, SourcesLemmas.{build_cause, build_order, lengths_fit, made_all, program_built, storages_fit}}
+use Rattle.tool.proofs.{CompiledLemmas.{handed_on, passed}, SourcesLemmas.{build_cause, build_order, lengths_fit, made_all, marked_all, program_built, storages_fit}}
 use Rattle.tool.proofs.building.build_few.Goals as goal
 
 pub build_program-requires-clause-storages : goal.build_program-requires-clause-storages
@@ -18,6 +18,12 @@ build_program-requires-clause-made c =
     made_all (texts_of c.args.sources.now) c.in_ok-compiled.compiled.items c.in_ok-parts.parts.modules.items
     c.in_ok-parts.parts.objects.items c.in_ok-compiled.ensures.compiled
     c.in_ok-parts.ensures.modules c.in_ok-parts.ensures.objects
+
+pub build_program-requires-clause-marked : goal.build_program-requires-clause-marked
+build_program-requires-clause-marked c =
+    marked_all (texts_of c.args.sources.now) c.in_ok-compiled.compiled.items
+    c.in_ok-parts.parts.objects.items c.in_ok-parts.parts.marks.items
+    c.in_ok-compiled.ensures.compiled c.in_ok-parts.ensures.objects c.in_ok-parts.ensures.marks
 
 pub returns-in_err-built-clause-refused : goal.returns-in_err-built-clause-refused
 returns-in_err-built-clause-refused c =

@@ -26,8 +26,8 @@ image_of-requires c = record {
       c.args.plan.now c.in-Ok.placed) c.as_slice-2.ensures.value c.in-Ok.ensures.placed));
 }
 
-pub new-requires : goal.new-requires
-new-requires c =
+pub new-requires-clause-made : goal.new-requires-clause-made
+new-requires-clause-made c =
     is_construction c.args.plan.now (map module_view c.args.parts.modules.items) c.args.parts.lengths.items
     c.in-Ok.placed c.args.parts.objects.items c.in_ok-image.image
     (subst (λ (lengths : List ℕ). IsPlacedBy (map module_view c.args.parts.modules.items) lengths

@@ -9,4 +9,5 @@ invariant-loop-one l = record {
   storages : l.parts.storages.items ≡ map (λ (one : Compiled). one.source.storage) l.yielded;
   objects : l.parts.objects.items ≡ map (λ (one : Compiled). one.object) l.yielded;
   lengths : l.parts.lengths.items ≡ map (λ (one : Compiled). length_of one.object segments.Code) l.yielded;
+  marks : l.parts.marks.items ≡ map (λ (one : Compiled). one.marks) l.yielded;
 }

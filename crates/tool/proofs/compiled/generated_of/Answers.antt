@@ -1,6 +1,6 @@
 use Rattle.tool.proofs.Prelude.{module_view, layout_view}
 use Rattle.tool.proofs.CompiledLemmas.{generation_refused, linkable, made_of, sound_tree_code}
-use Rattle.tool.proofs.compiled.object_of.Goals as goal
+use Rattle.tool.proofs.compiled.generated_of.Goals as goal
 
 pub generate-generated-requires-clause-linkable : goal.generate-generated-requires-clause-linkable
 generate-generated-requires-clause-linkable c =
@@ -9,7 +9,7 @@ generate-generated-requires-clause-linkable c =
 
 pub returns-in-Ok-clause-made : goal.returns-in-Ok-clause-made
 returns-in-Ok-clause-made c =
-    made_of (module_view c.args.source.now.typed) c.in_ok-tree.tree c.in-Ok.object
+    made_of (module_view c.args.source.now.typed) c.in_ok-tree.tree c.in-Ok.generated.object
     (sound_tree_code (module_view c.args.source.now.typed) (layout_view c.args.source.now.storage)
     c.in_ok-tree.tree c.requires.sound c.requires.source
     c.requires.storage c.in_ok-tree.ensures.lowered)
