@@ -5,13 +5,16 @@ use Rattle.std.proofs.lemmas.Bool.{cases_lt, eqb-true}
 use Rattle.asm8080.specs.Assembled.{AllBound}
 use Rattle.asm8080.specs.Items.{is_bound}
 use Rattle.steps8080.proofs.{Binding.{true_of}, Numbered.{false_by, not_both}}
-use Rattle.steps8080.specs.internal.Writer.{AreWritable, CountsNamed, is_marked, name_label, numbered}
+use Rattle.std.specs.List.{AllByRecursion}
+use Rattle.treecode.specs.internal.Named.{ContentIsNamed}
+use Rattle.steps8080.specs.internal.Writer.{AreNamed, AreWritable, CountsNamed, is_marked, name_label, numbered}
 use Rattle.exprgen8080.specs.internal.Emission.{module_label_of_routine}
 use Rattle.codegen8080.specs.internal.Bodies.{AreFree, IsLabelOf}
 use Rattle.codegen8080.specs.internal.ItemLabels.{ItemsBind}
 use Rattle.codegen8080.specs.internal.Sources.{IsOfModule}
 use Rattle.codegen8080.specs.internal.Standing.{AllStand}
 use Rattle.codegen8080.proofs.BoundModules.{contents_unbound, own_code_bound}
+use Rattle.codegen8080.proofs.NamedItems.{contents_named, own_code_named, own_names}
 use Rattle.codegen8080.proofs.PlacedLabels.{all_bound, bound_after, bound_binds, bound_first}
 use Rattle.asm8080.specs.declared.item.Item.TheVariants as items
 use Rattle.treecode.specs.declared.procedure.ProcedureKind.TheVariants as kinds
@@ -68,13 +71,15 @@ putting_ends before now whole putting =
 pub data_items :
     (before after : Written) (list : List Content)
     → before.code.items ≡ []
+    → AllByRecursion (ContentIsNamed (length before.externals)) list
     → Writes before after (contents_items list)
     → numbered after (contents_items list) ≡ Some after.code.items
-data_items before after list nothing writes =
+data_items before after list nothing named writes =
     let unbound = contents_unbound list in
     writes.same (record {
       once = unbound.once;
       new = λ label bound. let low = unbound.bound label bound in absurd (omega (arith, low.1));
+      named = contents_named (length before.externals) list named;
     })
     ∙ ap Some (sym (writes.added ∙ ap (λ made. made ++ writes.made) nothing))
 
@@ -433,6 +438,7 @@ one_label_writable : (before : Written) (at : ℕ)
 one_label_writable before at free = record {
   once = (λ label binds. refl, tt);
   new = λ label bound. ap (λ (one : ℕ). is_marked before.marked one) (one_label label at bound) ∙ free;
+  named = record { below = λ name used. absurd (not_both false used refl) };
 }
 
 -- routines whose labels have no place, after one is added
@@ -773,11 +779,17 @@ own_writable tree start before between made none own few =
     own_code_bound tree made.typed made.storage made.jumps made.lowered between.emission.is_called.items start own.list
     between.emission.steps.labels own.written.0 (own.written.1 none.labels) few in
     let nothing : before.emission.writer.marked ≡ [] = ap (λ (written : Written). written.marked) none.items in
+    let counted : length before.emission.writer.externals ≡ length tree.externals.items =
+    ap (λ (written : Written). length written.externals) none.items
+    ∙ length-replicate (length tree.externals.items) None in
     let unmarked : (label : ℕ) → is_marked before.emission.writer.marked label ≡ true → ⊥ =
     λ label given. no_marks label (ap (λ flags. is_marked flags label) (sym nothing) ∙ given) in (
       record {
         once = bound.0;
         new = λ label is. false_by (is_marked before.emission.writer.marked label) (unmarked label);
+        named = subst (λ (count : ℕ). AreNamed count own.list) (sym counted)
+            (own_code_named tree made.lowered.order (own_names tree made) between.emission.is_called.items start
+            own.list own.written.0);
       },
       indexed_free tree between.emission.writer.marked 0 all_routines
           (refl, (refl, (refl, (refl, (refl, (refl, (refl, (refl, (refl, tt)))))))))

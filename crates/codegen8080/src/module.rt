@@ -242,6 +242,8 @@ fn variables_of(
     tree: &TreeModule,
     externals: Externals,
 ) -> Result<Writer, AllocError>
+    requires as_many { length externals ≡ length tree.now.externals.items }
+    requires source { IsOfModule tree.now }
     ensures items { IfOk result (λ written. numbered written (contents_items tree.now.variables.items)
         ≡ Some written.code.items) }
     ensures externals { IfOk result (λ written. Extends externals written.externals) }

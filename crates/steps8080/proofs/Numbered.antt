@@ -341,13 +341,15 @@ writable_first : (before : Written) (items later : List Item)
 writable_first before items later are = record {
   once = once_first items later are.once;
   new = λ label bound. are.new label (bind_either label items later (inl bound));
+  named = record { below = λ name used. are.named.below name (use_either name items later (inl used)) };
 }
 
 writable_later : (before between : Written) (items later : List Item)
     → AreWritable before (items ++ later)
     → MarksOnly before.marked between.marked items
+    → length between.externals ≡ length before.externals
     → AreWritable between later
-writable_later before between items later are only = record {
+writable_later before between items later are only same = record {
   once = once_later items later are.once;
   new = λ label bound. false_by (is_marked between.marked label) (λ marked.
       elim (only label marked) [
@@ -355,6 +357,10 @@ writable_later before between items later are only = record {
             (are.new label (bind_either label items later (inr bound)))
         | inr new ↦ once_apart items later label are.once new bound
       ]);
+  named = record {
+    below = λ name used.
+        let below = are.named.below name (use_either name items later (inr used)) in omega (arith, below, same);
+  };
 }
 
 -- labels that get their places by items one after another
@@ -446,7 +452,7 @@ writes_then before between after items later first second = record {
       items_followed after items later first.made second.made
       (items_stay between after items first.made second.labels second.externals
       (first.same (writable_first before items later are)))
-      (second.same (writable_later before between items later are first.marked));
+      (second.same (writable_later before between items later are first.marked first.count));
   labels = λ number found given. second.labels number found (first.labels number found given);
   counted = counts_then before between after items later first.counted second.counted second.labels;
   marked = marks_then before.marked between.marked after.marked items later first.marked second.marked;
@@ -467,13 +473,13 @@ pub writes_one :
     → Extends inside.externals after.externals
     → NumbersNames inside.externals after.externals (item ∷ [])
     → length after.externals ≡ length inside.externals
-    → numbered_item after item ≡ Some made
+    → (AreWritable inside (item ∷ []) → numbered_item after item ≡ Some made)
     → Writes before after (item ∷ [])
 writes_one inside before after item made same added labels counted marked externals names count named =
     subst (λ old. Writes old after (item ∷ [])) same (record {
       made = made ∷ [];
       added = added;
-      same = λ are. ap (λ front. in_front front (Some [])) named;
+      same = λ are. ap (λ front. in_front front (Some [])) (named are);
       labels = labels;
       counted = counted;
       marked = marked;
@@ -501,7 +507,7 @@ writes_known inside before after item made same added labels marked externals na
     (λ number found given. ap (λ table. entry table number) externals ∙ given)
     (names_same inside.externals after.externals (item ∷ []) externals)
     (ap (λ table. length table) externals)
-    named
+    (λ are. named)
 
 -- one item is added, and a name gets a number
 pub writes_named :
@@ -514,7 +520,7 @@ pub writes_named :
     → AddsOnly name inside.externals after.externals
     → length after.externals ≡ length inside.externals
     → use_name name (item ∷ []) ≡ true
-    → numbered_item after item ≡ Some made
+    → (name < length inside.externals → numbered_item after item ≡ Some made)
     → Writes before after (item ∷ [])
 writes_named inside before after item made name same added labels marked externals only count used named =
     writes_one inside before after item made same
@@ -525,7 +531,7 @@ writes_named inside before after item made name same added labels marked externa
     externals
     (name_used name inside.externals after.externals (item ∷ []) only used)
     count
-    named
+    (λ are. named (are.named.below name used))
 
 -- a jump to a label, or another instruction with its place, once the label has its number
 pub writes_jump :
@@ -556,7 +562,7 @@ writes_jump before between inside code form number label is items labels counted
     (λ name given other. ap (λ table. entry table name) externals ∙ other)
     (names_same before.externals between.externals (jump_item form number ∷ []) externals)
     (ap (λ table. length table) externals)
-    (ap (λ (one : Option ℕ). option_map (WithWord form) (option_map AtLabel one)) found)))
+    (λ are. ap (λ (one : Option ℕ). option_map (WithWord form) (option_map AtLabel one)) found)))
 
 -- a label gets its place, once it has its number
 pub writes_mark :
@@ -591,7 +597,7 @@ writes_mark before between inside code marked number label is items labels count
     (λ name given other. ap (λ table. entry table name) externals ∙ other)
     (names_same before.externals between.externals (Mark number ∷ []) externals)
     (ap (λ table. length table) externals)
-    (ap (option_map Mark) found)))
+    (λ are. ap (option_map Mark) found)))
 
 -- a label that has its place gets none
 pub writes_no_mark :

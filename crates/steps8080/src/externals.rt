@@ -1,6 +1,6 @@
 //! The EXTERNAL names that code refers to.
 
-ghost use Rattle.std.specs.Prelude.{◌≡◌, None, Some, length, replicate, IfOk, IfSome};
+ghost use Rattle.std.specs.Prelude.{◌≡◌, ◌<◌, None, Some, length, replicate, IfOk, IfSome};
 ghost use Rattle.steps8080.specs.internal.Externals.{AddsOnly, Extends, IsNumbering, entry};
 
 use std::alloc::{AllocError, Global};
@@ -37,27 +37,26 @@ impl Externals {
         })
     }
 
-    /// Returns the number of the name with this index, and numbers it at its first use. Fails if the index is out of
-    /// range. Names after the first 65535 share a number.
+    /// The number of the name with this index, which it gets at its first use; 0 if there is no name with this index.
+    /// Names after the first 65535 share a number.
     #[tactic(auto, using(crate::proofs::Numbered::same_names, crate::proofs::Numbered::one_name_more))]
-    pub fn number(&mut self, name: u32) -> Result<u16, AllocError>
-        ensures found { IfOk result (λ number. entry self.new name ≡ Some number) }
+    pub fn number(&mut self, name: u32) -> u16
+        ensures found { name < length self.old → entry self.new name ≡ Some result }
         ensures kept { Extends self.old self.new }
         ensures only { AddsOnly name self.old self.new }
         ensures count { length self.new ≡ length self.old }
     {
         let index = name as usize;
         if index >= self.numbers.len() {
-            // A place has a name of its module: no clause of tree code says so.
-            return Err(AllocError);
+            return 0;
         }
         if let Some(number) = self.numbers[index] {
-            return Ok(number);
+            return number;
         }
         let number = u16::try_from(self.used).unwrap_or(u16::MAX);
         self.used = self.used.saturating_add(1);
         self.numbers[index] = Some(number);
-        Ok(number)
+        number
     }
 
     /// How many names are in use, if each has a number of its own.

@@ -105,7 +105,7 @@ impl Writer {
         ensures { OnOk result (Writes self.old self.new
             (WithWord form (AtTarget (External name) offset) ∷ [])) }
     {
-        let number = self.externals.number(name)?;
+        let number = self.externals.number(name);
         self.code
             .emit_fixed(form, Target::External(number), offset)?;
         Ok(())
@@ -168,7 +168,7 @@ impl Writer {
         ensures { OnOk result (Writes self.old self.new
             (Address (AtTarget (External name) offset) ∷ [])) }
     {
-        let number = self.externals.number(name)?;
+        let number = self.externals.number(name);
         self.code.emit_address(Target::External(number), offset)?;
         Ok(())
     }

@@ -64,6 +64,10 @@ uses_name name item = false
 abbrev pub use_name : (name : ℕ) → List Item → Bool
 use_name name items = list_any (uses_name name) items
 
+-- items refer only to names with indices below a number
+pub record AreNamed (count : ℕ) (items : List Item) : Type 0 where
+  pub below : (name : ℕ) → use_name name items ≡ true → name < count
+
 -- a name gets a number only if items refer to it
 abbrev pub NumbersNames : (before after : List (Option ℕ)) → List Item → Type 0
 NumbersNames before after items =
@@ -113,10 +117,12 @@ MarksOnly before after items =
 abbrev pub KeepsMarks : (before after : List Bool) → Type 0
 KeepsMarks before after = (label : ℕ) → is_marked after label ≡ true → is_marked before label ≡ true
 
--- items that bind each label at most once, and none that has its place
+-- Items that bind each label at most once, and none that has its place. Each name that they refer to is in the
+-- table of names.
 pub record AreWritable (before : Written) (items : List Item) : Type 0 where
   pub once : BoundOnce items
   pub new : (label : ℕ) → is_bound label items ≡ true → is_marked before.marked label ≡ false
+  pub named : AreNamed (length before.externals) items
 
 -- Items are appended to code, whole if they are writable. Numbers that were given before stay, the code has no label
 -- more than the items name, and the table of names keeps its length.

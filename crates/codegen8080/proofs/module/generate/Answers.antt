@@ -4,6 +4,10 @@ use Rattle.codegen8080.proofs.ObjectParts.{generated, made_of_same}
 use Rattle.codegen8080.proofs.Refused.{code_refused, data_refused}
 use Rattle.codegen8080.proofs.module.generate.Goals as goal
 
+pub variables_of-requires-clause-as_many : goal.variables_of-requires-clause-as_many
+variables_of-requires-clause-as_many c =
+    ap (λ table. length table) c.in_ok-code.ensures.externals ∙ c.in_ok-writer.ensures.written.count
+
 pub names_of-requires-clause-as_many : goal.names_of-requires-clause-as_many
 names_of-requires-clause-as_many c =
     ap (λ table. length table) c.in_ok-variables.ensures.externals

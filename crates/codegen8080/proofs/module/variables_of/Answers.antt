@@ -1,11 +1,16 @@
-use Rattle.codegen8080.proofs.Prelude.{ap, length, subst, ◌∙◌, entry, NumbersNames, Writes, Written, contents_items}
-use Rattle.codegen8080.proofs.{ModuleParts.{data_items}, PlacedLabels.{data_bound}}
+use Rattle.codegen8080.proofs.Prelude.{ap, length, subst, sym, ℕ, ◌∙◌, entry, NumbersNames, Writes, Written, contents_items}
+use Rattle.std.specs.List.{AllByRecursion}
+use Rattle.treecode.specs.internal.Named.{ContentIsNamed}
+use Rattle.codegen8080.proofs.{ModuleParts.{data_items}, NamedItems.{own_names}, PlacedLabels.{data_bound}}
 use Rattle.codegen8080.proofs.module.variables_of.Goals as goal
 
 pub returns-clause-items : goal.returns-clause-items
 returns-clause-items c =
     data_items c.sharing-writer.result c.put_contents.new.writer c.args.tree.now.variables.items
     (ap (λ (written : Written). written.code.items) c.sharing-writer.ensures)
+    (subst (λ (count : ℕ). AllByRecursion (ContentIsNamed count) c.args.tree.now.variables.items)
+    (sym (ap (λ (written : Written). length written.externals) c.sharing-writer.ensures ∙ c.requires.as_many))
+    (own_names c.args.tree.now c.requires.source).variables)
     (subst (λ contents. Writes c.sharing-writer.result c.put_contents.new.writer (contents_items contents))
     c.as_slice.ensures.value c.in_ok-put_contents.ensures)
 

@@ -6,11 +6,11 @@ pub returns : goal.returns
 returns c =
     writes_named _ _ _
     (WithWord c.args.form (AtTarget (External c.args.name) c.args.offset))
-    (WithWord c.args.form (AtTarget (External c.in_ok-number.number) c.args.offset))
-    c.args.name c.self.view_is c.in_ok-emit_fixed.ensures.ok refl refl c.number.ensures.kept c.number.ensures.only
-    c.number.ensures.count
+    (WithWord c.args.form (AtTarget (External c.number-number.result) c.args.offset))
+    c.args.name c.self.view_is c.in_ok-emit_fixed.ensures.ok refl refl c.number-number.ensures.kept c.number-number.ensures.only
+    c.number-number.ensures.count
     (is_itself c.args.name)
-    (ap
+    (λ below. ap
     (λ found. option_map (WithWord c.args.form)
     (option_map (λ (number : ℕ). AtTarget (External number) c.args.offset) found))
-    c.in_ok-number.ensures.found)
+    (c.number-number.ensures.found below))
