@@ -1,9 +1,9 @@
 -- What is true of each program that is built, and of each whose sources are read.
 use Rattle.built_laws.proofs.Prelude.{ℕ, List, [], ◌∷◌, All, All-cons, All-nil, TypedModule, IsSourceOf, AreSourcesOf, IsProgramOf, program_modules, Construction, IsConstruction}
 use Rattle.typing_rules.proofs.ModulesTyped.{module_is}
-use Rattle.typed_laws.specs.Limits.{ChargesFit}
+use Rattle.typed_laws.specs.internal.Limits.{ChargesFit}
 use Rattle.typed_laws.proofs.Charges.{derived_charges_fit}
-use Rattle.meaning_laws.specs.{Defaults.{TakesNoDefault}, Meant.{IsWhole}, Places.{IsPlaceable}, internal.Publics.{HasTree}}
+use Rattle.meaning_laws.specs.{internal.Defaults.{TakesNoDefault}, internal.Meant.{IsWhole}, internal.Places.{IsPlaceable}, internal.Publics.{HasTree}}
 use Rattle.meaning_laws.proofs.{Defaults.{takes_no_default}, Publics.{all_placeable}}
 use Rattle.built_laws.specs.BuiltPrograms.{program_of}
 

@@ -4,7 +4,7 @@ pub use Rattle.std.specs.{List.{list_all, slice_range}, Option.{option_flatten, 
 pub use Rattle.mem80.proofs.Lists.{take_found, take_whole}
 pub use Rattle.symbols.specs.Names.{is_name}
 pub use Rattle.trees.proofs.Lists.{drop_found}
-pub use Rattle.object_modules.specs.{Module.{Fixup, ObjectModule, Places, Public, SetByte, are_new, begins_word, is_among, is_both, is_movable, is_plain, is_target, is_valid_public, is_valid_segment, words_are_whole}, Rules.{fix_end}, Runs.{fixup_at, with_run}, Stored.{IsStored, are_longest, fixes_ascend, is_in_a_run, places_stored}, Text.{Run, before_runs, runs_from}, Views.{AreKept, owned_public_view}, declared.object.ModuleParts.{ModuleParts}, declared.segment.Fix.{Fix}, declared.segment.FixKind.{FixKind}, declared.segment.Segment.{Segment}, declared.segment.Segment.TheVariants.{Absolute, Code, Data, Stack}, declared.segment.Target.{Target}, declared.segment.Target.TheVariants.{External, InSegment}, declared.segment.TheConstants.{SEGMENT_LIMIT}, internal.Joining.{run_at, with_runs}}
+pub use Rattle.object_modules.specs.{Module.{Fixup, ObjectModule, Places, Public, SetByte, are_new, begins_word, is_among, is_both, is_movable, is_plain, is_target, is_valid_public, is_valid_segment, words_are_whole}, Rules.{fix_end}, Runs.{fixup_at, with_run}, Stored.{IsStored, are_longest, fixes_ascend, is_in_a_run, places_stored}, Text.{Run, before_runs, runs_from}, internal.Views.{AreKept, owned_public_view}, declared.object.ModuleParts.{ModuleParts}, declared.segment.Fix.{Fix}, declared.segment.FixKind.{FixKind}, declared.segment.Segment.{Segment}, declared.segment.Segment.TheVariants.{Absolute, Code, Data, Stack}, declared.segment.Target.{Target}, declared.segment.Target.TheVariants.{External, InSegment}, declared.segment.TheConstants.{SEGMENT_LIMIT}, internal.Joining.{run_at, with_runs}}
 pub use Rattle.isa8080.specs.{Code.{bytes_of}, State.{high_byte, low_byte, wrap}, declared.instr.Instr.{Instr, TheVariants.{Hlt}}, declared.instr.Pair.TheVariants.{Sp}}
 pub use Rattle.asm8080.proofs.{CodeInParts.{stands_in_parts}, Segments.{places_length, runs_longest, segment_places_in, set_length, set_well, valid_bytes}}
 pub use Rattle.asm8080.specs.{Assembled.{Assembled, Assembles, FitsSegment, IsFinished, fixed_bytes, places_of, segment_of, set_bytes}, Items.{Assembly, Layout, Stands, instruction_with, size_of_items, word_of}, Standing.{BytesStand}, declared.fault.Fault.{Fault as CodeFault}, declared.item.Item.{Item, TheVariants.{Address, Byte, Gap, Mark, Plain, WithWord}}, declared.item.Reference.{Reference, TheVariants.{AtLabel, AtNumber, AtTarget}}, declared.item.WordForm.TheVariants.{LoadPair}}
@@ -25,7 +25,7 @@ pub use Rattle.codegen8080.specs.internal.Modules.{ArePublicsOf, AreRoutines, Ar
 pub use Rattle.codegen8080.specs.internal.Procedures.{entry_labels, entry_steps}
 unfoldable pub use Rattle.codegen8080.specs.internal.Procedures.{end_steps, known_at, known_from, popped_at, popped_from}
 unfoldable pub use Rattle.codegen8080.specs.internal.Statements.{statement_labels, statement_steps}
-pub use Rattle.codegen8080.specs.Targets.{retargeted, with_targets}
+pub use Rattle.codegen8080.specs.internal.Targets.{retargeted, with_targets}
 pub use Rattle.codegen8080.specs.declared.generator.Generator.{Generator}
 pub use Rattle.codegen8080.specs.declared.meeting.Here.{Here}
 pub use Rattle.codegen8080.specs.internal.Bodies.{AddsCalled, AddsCodeOfMain, AddsEnd, AddsEntry, AddsMain, AddsOwn, AddsOwnCode, AddsProcedure, AddsProcedures, AddsRoutineIf, AddsRoutines, LabelledCode, LabelledCodeOfMain, LabelledEnd, LabelledProcedure, LabelledProcedures, first_routines, last_routines, next_routines}

@@ -1,4 +1,3 @@
 pub mod Faults
-pub mod Targets
 pub mod Marks
 pub mod internal

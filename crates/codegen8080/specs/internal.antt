@@ -18,3 +18,4 @@ pub mod Carrying
 pub mod Bodies
 pub mod Listing
 pub mod Marks
+pub mod Targets

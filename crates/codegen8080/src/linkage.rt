@@ -2,7 +2,7 @@
 
 ghost use Rattle.std.specs.Prelude.{◌≡◌, [], ◌∷◌, ◌++◌, false, length, map, IfOk, IsTrue};
 ghost use Rattle.object_modules.specs.Module.{is_among, may_have_publics};
-ghost use Rattle.object_modules.specs.Views.{owned_public_view};
+ghost use Rattle.object_modules.specs.internal.Views.{owned_public_view};
 ghost use Rattle.codegen8080.specs.internal.Names.{names_of};
 
 use object_modules::{Name, OwnedPublic};
@@ -17,7 +17,7 @@ pub(crate) struct LinkageNames {
 
 impl Model for LinkageNames {
     ghost use Rattle.std.specs.Prelude.{◌≡◌, map};
-    ghost use Rattle.object_modules.specs.Views.{owned_public_view};
+    ghost use Rattle.object_modules.specs.internal.Views.{owned_public_view};
     ghost use Rattle.codegen8080.specs.internal.Names.{IsLinkage, Linkage};
 
     ghost Value = { Linkage };

@@ -4,7 +4,7 @@ ghost use Rattle.std.specs.Prelude.{◌≡◌, ◌+◌, ◌<◌, [], ◌++◌, f
 ghost use Rattle.std.specs.List.{AllByRecursion};
 ghost use Rattle.steps8080.specs.internal.Externals.{IsNumbering};
 ghost use Rattle.object_modules.specs.Module.{are_new, is_among, may_have_publics};
-ghost use Rattle.object_modules.specs.Views.{owned_public_view};
+ghost use Rattle.object_modules.specs.internal.Views.{owned_public_view};
 ghost use Rattle.codegen8080.specs.internal.Modules.{IsAtPlace, used_names};
 ghost use Rattle.codegen8080.specs.internal.Listing.{AreListed, ArePublicsIn, FollowPlaces, IsPublicIn, used_name};
 ghost use Rattle.codegen8080.specs.internal.Names.{HasOwnPlace, IsOwnPlace, IsPublicHere, names_of, names_of_externals, names_of_publics};

@@ -5,7 +5,7 @@ ghost use Rattle.object_modules.specs.declared.segment.TheConstants.{SEGMENT_LIM
 ghost use Rattle.object_modules.specs.Text.{runs_from};
 ghost use Rattle.object_modules.specs.internal.Joining.{with_runs};
 ghost use Rattle.asm8080.specs.Assembled.{segment_of, set_bytes};
-ghost use Rattle.codegen8080.specs.Targets.{with_targets};
+ghost use Rattle.codegen8080.specs.internal.Targets.{with_targets};
 ghost use Rattle.codegen8080.specs.internal.Segments.{IsKept, KeepsFixes, retarget};
 
 use crate::targets::retargeted;

@@ -1,7 +1,7 @@
 //! Targets of fixes.
 
 ghost use Rattle.std.specs.Prelude.{◌≡◌, length, map, IfOk};
-ghost use Rattle.codegen8080.specs.Targets.{retargeted};
+ghost use Rattle.codegen8080.specs.internal.Targets.{retargeted};
 ghost use Rattle.codegen8080.specs.internal.Segments.{listed_target, retarget};
 
 use object_modules::{Fix, Segment, Target};

@@ -4,3 +4,4 @@ pub mod Examples
 pub mod Names
 pub mod Pages
 pub mod Reads
+pub mod Orders

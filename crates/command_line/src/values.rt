@@ -6,7 +6,7 @@ ghost use Rattle.std.specs.Option.{SomeIff};
 ghost use Rattle.std.specs.Char.{digit_value, is_digit};
 ghost use Rattle.failure.specs.Failure.{IfFault};
 ghost use Rattle.clap.specs.Walk.{texts};
-ghost use Rattle.command_line.specs.Command.{execute_in, explain_in, place_in, plan_in, program_in};
+ghost use Rattle.command_line.specs.internal.Orders.{execute_in, explain_in, place_in, plan_in, program_in};
 ghost use Rattle.command_line.specs.Settings.{execute_read, HasMemory, HasNames, HasOutputs, IsSettingsOf, byte_of, bytes_for, group_bytes, input_bytes, input_read, jump_read, limit_number, only_file, plan_number, all_groups};
 ghost use Rattle.command_line.specs.Settings.{plan_read};
 ghost use Rattle.command_line.specs.Settings.{IsPageOf, page_read};

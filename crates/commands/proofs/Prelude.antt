@@ -28,11 +28,11 @@ pub use Rattle.cpu8080.specs.{Machine.{Machine}, Runs.{FailsAfter, IsRun}, decla
 pub use Rattle.sources.specs.{Causes.{HasReadCause}, Programs.{AreSourcesOf, IsProgramOf, program_modules, texts_of}, Reading.{IsSourceOf}, declared.{read.ReadFault.{ReadFault, TheVariants.{Expansion, Storage, Syntax, TooLong, Typing, Words}}, sources.TheConstants.{MOST_SOURCES}}}
 pub use Rattle.tool.proofs.CompiledLemmas.{passed, past_texts, text_at, within_texts}
 pub use Rattle.tool.specs.{Construction.{Construction, IsConstruction}, Execution.{source_of, started}, Faults.{file_of, line_of, name_of, number_of}, Made.{IsCompiledTo}, Sources.{IsInOrder, IsRefusedAlone}, declared.fault.ToolFault.{ToolFault, TheVariants.{Code, Link, Locate, Program, Source, TooManySources}}}
-pub use Rattle.command_line.specs.{Command.{CompileWanted, ConvertWanted, ExecuteWanted, ExplainWanted, IsFaultOf, NeedWanted, PlaceWanted, ProgramWanted, Wanted, convert_in, execute_in, place_in, program_in, wanted_by, wanted_in, wants_compile, wants_convert, wants_execute, wants_explain, wants_link, wants_need, wants_place, wants_program}, Settings.{NamedPort, Read, Values, execute_read, file_names, jump_read, only_file, outputs_in, page_read, plan_read, port_file_in, values_in, values_read, ◌>>=◌}, declared.{orders.{Action.{Action, TheVariants.{Interpret, Run as ToRun}}, ConvertOrder.{ConvertOrder}, PlaceAction.{PlaceAction, TheVariants.{Hex, Listing, Symbols}}}, reading.LineFault.{LineFault, TheVariants.{Help, Version, Wrong}}, start_memory.MemoryByte.{MemoryByte}, values.InputByte.{InputByte}}}
+pub use Rattle.command_line.specs.{Command.{CompileWanted, ConvertWanted, ExecuteWanted, ExplainWanted, NeedWanted, PlaceWanted, ProgramWanted, Wanted, wanted_by, wants_compile, wants_convert, wants_execute, wants_explain, wants_link, wants_need, wants_place, wants_program}, internal.Orders.{IsFaultOf, convert_in, execute_in, place_in, program_in, wanted_in}, Settings.{NamedPort, Read, Values, execute_read, file_names, jump_read, only_file, outputs_in, page_read, plan_read, port_file_in, values_in, values_read, ◌>>=◌}, declared.{orders.{Action.{Action, TheVariants.{Interpret, Run as ToRun}}, ConvertOrder.{ConvertOrder}, PlaceAction.{PlaceAction, TheVariants.{Hex, Listing, Symbols}}}, reading.LineFault.{LineFault, TheVariants.{Help, Version, Wrong}}, start_memory.MemoryByte.{MemoryByte}, values.InputByte.{InputByte}}}
 pub use Rattle.printing.proofs.RunLemmas.{Made, made_on, none_made, run_on, slice_ends}
 pub use Rattle.printing.specs.{Printing.{BeginsRun, PrintsRun, end_word}, Report.{report_of}}
 pub use Rattle.host.proofs.{FilesRead.{map_more as looked_more, files_stay, files_stay as unchanged, stays_on, stops_as, stops_before, was_there}, LinesPrinted.{is_other, same_line, tells_file, tells_no_file, tells_other}, WritingLemmas.{beginning_after, on_err}}
-pub use Rattle.host.specs.{Endings.{status_of}, Failure.{IfFault}, Files.{ChangesFiles, Directory, FindsFile, HasFile, KeepsFiles, with_file}, Outcome.{Failure, TheVariants.{Fault, Memory}}, Reading.{HasFiles, StopsAt}, Refusals.{Tells, TellsOther, file_line, memory_line, output_line}, Writing.{AppendsBeginning, IsBeginning}, declared.{endings.Ending.{Ending, TheVariants.{Done, Limit, Outside, Refused, Stopped, WrongLine}}, files.FileFault.{FileFault}}}
+pub use Rattle.host.specs.{internal.Endings.{status_of}, Failure.{IfFault}, Files.{ChangesFiles, Directory, FindsFile, HasFile, KeepsFiles, with_file}, Outcome.{Failure, TheVariants.{Fault, Memory}}, Reading.{HasFiles, StopsAt}, Refusals.{Tells, TellsOther, file_line, memory_line, output_line}, Writing.{AppendsBeginning, IsBeginning}, declared.{endings.Ending.{Ending, TheVariants.{Done, Limit, Outside, Refused, Stopped, WrongLine}}, files.FileFault.{FileFault}}}
 unfoldable pub use Rattle.host.specs.Refusals.{TellsRefusal, refusal_line}
 pub use Rattle.object_commands.proofs.{FilesWritten.{kept_others, kept_then_others, kept_then_stopped, kept_then_written, written_others}, Lines.{hole_is}, Lists.{item_added}}
 pub use Rattle.object_commands.specs.{Linking.{KeepsOthers, StopsWriting}, Listing.{PrintsListing, StopsListing}, Merging.{PlacesMerge}, Placing.{address_digits}}

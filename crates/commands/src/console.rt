@@ -1,12 +1,13 @@
 //! Carrying out a command line.
 
 ghost use Rattle.std.specs.Prelude.{◌≡◌, ◌≤◌, [], Ok};
-ghost use Rattle.host.specs.Endings.{status_of};
+ghost use Rattle.host.specs.internal.Endings.{status_of};
 ghost use Rattle.host.specs.Refusals.{TellsOther, TellsRefusal};
 ghost use Rattle.clap.specs.Walk.{texts};
 ghost use Rattle.clap.specs.Words.{fault_of};
 ghost use Rattle.host.specs.Files.{KeepsFiles};
-ghost use Rattle.command_line.specs.Command.{plm_app, place_in, wanted_by, wanted_in, wants_place};
+ghost use Rattle.command_line.specs.Command.{plm_app, wanted_by, wants_place};
+ghost use Rattle.command_line.specs.internal.Orders.{place_in, wanted_in};
 ghost use Rattle.command_line.specs.Settings.{plan_read};
 ghost use Rattle.commands.specs.Orders.{AsksHelpAtMost, AsksNoHelp, ChangesAsWanted, ChangesByWords, PrintsAsWanted, PrintsByWords, PrintsObject, PrintsWanted, RefusesAsWanted, RefusesByWords, RefusesNoText, RefusesObject, RefusesPlaced, RunsAsWanted, RunsByWords, StopsAsWanted, StopsByWords, QuietAsWanted, QuietByWords, TellsObjectText, TellsText, TellsTextByWords, WritesAsWanted, WritesByWords, names_by_words, names_of};
 ghost use Rattle.commands.specs.Converting.{ConvertsAsWanted, ConvertsByWords, TellsAsWanted, TellsByWords, TellsOutput};

@@ -4,9 +4,9 @@ ghost use Rattle.std.specs.Prelude.{◌≡◌, ◌⊎◌, ◌<◌, ◌≤◌, []
 ghost use Rattle.host.specs.Failure.{IfFault};
 ghost use Rattle.host.specs.Writing.{AppendsBeginning};
 ghost use Rattle.words.specs.declared.limits.TheConstants.{LONGEST_SOURCE};
-ghost use Rattle.host.specs.Endings.{status_of};
+ghost use Rattle.host.specs.internal.Endings.{status_of};
 ghost use Rattle.host.specs.Refusals.{Tells};
-ghost use Rattle.command_line.specs.Command.{convert_in};
+ghost use Rattle.command_line.specs.internal.Orders.{convert_in};
 ghost use Rattle.convert.specs.Assembly.{as_it_is, parts_of};
 ghost use Rattle.convert.specs.Edits.{changes_of};
 ghost use Rattle.convert.specs.Origins.{line_table};

@@ -1,10 +1,10 @@
 //! Orders to run objects, carried out.
 
 ghost use Rattle.std.specs.Prelude.{◌≡◌, ◌++◌, map};
-ghost use Rattle.host.specs.Endings.{status_of};
+ghost use Rattle.host.specs.internal.Endings.{status_of};
 ghost use Rattle.host.specs.Files.{KeepsFiles};
 ghost use Rattle.host.specs.Refusals.{TellsRefusal};
-ghost use Rattle.command_line.specs.Command.{execute_in};
+ghost use Rattle.command_line.specs.internal.Orders.{execute_in};
 ghost use Rattle.command_line.specs.Settings.{values_in};
 ghost use Rattle.commands.specs.Executing.{PrintsMerge, PrintsRead, RefusesObjects, StopsRead};
 ghost use Rattle.commands.specs.InputFiles.{input_names};

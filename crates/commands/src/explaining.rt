@@ -2,7 +2,8 @@
 
 ghost use Rattle.std.specs.Prelude.{◌≡◌};
 ghost use Rattle.host.specs.Refusals.{TellsOther};
-ghost use Rattle.command_line.specs.Command.{explain_in, wants_explain};
+ghost use Rattle.command_line.specs.Command.{wants_explain};
+ghost use Rattle.command_line.specs.internal.Orders.{explain_in};
 ghost use Rattle.commands.specs.Explaining.{PrintsPage, RefusesPage};
 ghost use Rattle.commands.specs.Orders.{TellsText};
 

@@ -1,7 +1,7 @@
 //! Runs of images, of which what they do is printed.
 
 ghost use Rattle.std.specs.Prelude.{◌≡◌, [], None, Some, IfOk, IfSome, OnErr, false, map, true};
-ghost use Rattle.host.specs.Endings.{status_of};
+ghost use Rattle.host.specs.internal.Endings.{status_of};
 ghost use Rattle.isa8080.specs.declared.registers.Status.TheVariants.{Running};
 ghost use Rattle.cpu8080.specs.Runs.{IsRun};
 ghost use Rattle.tool.specs.Execution.{started};

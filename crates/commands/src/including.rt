@@ -7,7 +7,7 @@ ghost use Rattle.clap.specs.Walk.{texts};
 ghost use Rattle.convert.specs.Assembly.{assembled};
 ghost use Rattle.convert.specs.Includes.{candidates};
 ghost use Rattle.convert.specs.Lines.{plain};
-ghost use Rattle.command_line.specs.Command.{convert_in};
+ghost use Rattle.command_line.specs.internal.Orders.{convert_in};
 ghost use Rattle.commands.specs.Including.{FindsText, IsIncluded, LooksUp, StopsLooking, StopsLookingForNext, first_of, found_view, most_names};
 
 use command_line::ConvertOrder;

@@ -3,7 +3,8 @@
 ghost use Rattle.std.specs.Prelude.{◌≡◌, ◌⊎◌};
 ghost use Rattle.host.specs.Refusals.{TellsRefusal};
 ghost use Rattle.host.specs.Files.{KeepsFiles};
-ghost use Rattle.command_line.specs.Command.{need_in, wants_need};
+ghost use Rattle.command_line.specs.Command.{wants_need};
+ghost use Rattle.command_line.specs.internal.Orders.{need_in};
 ghost use Rattle.commands.specs.Refusing.{RefusesFor};
 ghost use Rattle.commands.specs.Needing.{PrintsNeedOf, RefusesNeedOf};
 ghost use Rattle.commands.specs.Orders.{PrintsNeedWanted, RefusesNeed, TellsText};

@@ -1,7 +1,7 @@
 //! Orders to run sources or objects, carried out.
 
 ghost use Rattle.std.specs.Prelude.{◌≡◌, ◌⊎◌, ◌++◌, [], false, map, true};
-ghost use Rattle.host.specs.Endings.{status_of};
+ghost use Rattle.host.specs.internal.Endings.{status_of};
 ghost use Rattle.host.specs.Files.{KeepsFiles};
 ghost use Rattle.host.specs.Refusals.{TellsRefusal};
 ghost use Rattle.command_line.specs.Settings.{HasNames, HasOutputs, IsSettingsOf, outputs_in, values_in};

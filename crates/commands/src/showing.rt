@@ -1,7 +1,7 @@
 //! Listings and symbols of files that are placed.
 
 ghost use Rattle.std.specs.Prelude.{◌≡◌, ◌≤◌, ◌⊎◌, IfOk, false, length, map, true};
-ghost use Rattle.command_line.specs.Command.{place_in};
+ghost use Rattle.command_line.specs.internal.Orders.{place_in};
 ghost use Rattle.host.specs.Files.{KeepsFiles};
 ghost use Rattle.host.specs.Refusals.{TellsOther, TellsRefusal};
 ghost use Rattle.sources.specs.Programs.{IsProgramOf, program_modules, text_of, texts_of};

@@ -3,10 +3,11 @@ pub use Rattle.std.proofs.{Common.{Bool, Decides, Err, List, None, Ok, Option, R
 pub use Rattle.std.specs.{List.{list_any}, Option.{option_eq}, Prelude.{filter, nat_le, slice_get, sum_by, ◌||◌}, Vec.{with_items}}
 pub use Rattle.mem80.proofs.Booleans.{or_kept}
 pub use Rattle.typed_trees.specs.{Sizes.{size_of_member, size_of_object}, TypedTrees.{BasedOn, Elsewhere, Home, InConstants, InData, InFrame, Nowhere, Placed, TypedModule, TypedObject}, Views.{object_view}, declared.parts.TypedMember.{TypedMember}}
-pub use Rattle.placing.specs.{Tables.{IsKind, IsTableOf}, Views.{placement_view}, declared.table.ByteKind.{ByteKind, TheVariants.{Undeclared, Writable}}}
+pub use Rattle.placing.specs.{internal.Tables.{IsKind, IsTableOf}, Views.{placement_view}, declared.table.ByteKind.{ByteKind, TheVariants.{Undeclared, Writable}}}
 pub use Rattle.meaning.specs.{Access.{InMemory, InTheFrame, frame_bytes, is_constant, is_declared, read_byte, read_scalar, write_byte, write_scalar}, Meaning.{frame_of, is_frame_of}, Outcomes.{Gave, Outcome, Outside, Program, State, Stopped, then_do}, declared.reason.Reason.{Reason, TheVariants.{Byte as UndeclaredByte, Constant}}}
-pub use Rattle.declared.specs.Access.{Written, byte_read, byte_written, modules_in, next_address, number_of_bytes, refused, scalar_read, scalar_written, then_write, written}
-unfoldable pub use Rattle.declared.specs.Access.{is_constant_at, is_declared_at}
+pub use Rattle.declared.specs.internal.Access.{Written, byte_read, byte_written, next_address, number_of_bytes, refused, scalar_read, scalar_written, then_write, written}
+pub use Rattle.join.specs.Views.{modules_in}
+unfoldable pub use Rattle.declared.specs.internal.Access.{is_constant_at, is_declared_at}
 pub use Rattle.declared.specs.internal.Frames.{ModuleFrames, current_frame, frame_object, frame_object_by, frame_scalar, frame_with_byte, frame_with_scalar, is_procedure, module_frames, size_in, sizes_in, with_current, zeroed, zeroed_frame}
 pub use Rattle.declared.specs.declared.frames.OpenFrame.{OpenFrame}
 pub use Rattle.declared.specs.internal.Cuts.{cut, total}

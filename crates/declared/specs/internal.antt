@@ -4,3 +4,4 @@ pub mod Kinds
 pub mod Cuts
 pub mod Slots
 pub mod Nesting
+pub mod Access

@@ -2,7 +2,8 @@
 
 ghost use Rattle.std.specs.Prelude.{◌≡◌};
 ghost use Rattle.placing.specs.Views.{placement_view};
-ghost use Rattle.declared.specs.Access.{AreKindsOf, byte_read, byte_written, is_constant_at, is_declared_at, modules_in};
+ghost use Rattle.declared.specs.internal.Access.{AreKindsOf, byte_read, byte_written, is_constant_at, is_declared_at};
+ghost use Rattle.join.specs.Views.{modules_in};
 ghost use Rattle.declared.specs.internal.Kinds.{says_constant, says_declared};
 
 use join::Joined;

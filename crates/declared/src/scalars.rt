@@ -2,7 +2,8 @@
 
 ghost use Rattle.std.specs.Prelude.{◌≡◌};
 ghost use Rattle.placing.specs.Views.{placement_view};
-ghost use Rattle.declared.specs.Access.{AreKindsOf, modules_in, scalar_read, scalar_written};
+ghost use Rattle.declared.specs.internal.Access.{AreKindsOf, scalar_read, scalar_written};
+ghost use Rattle.join.specs.Views.{modules_in};
 
 use crate::bytes::{read_byte, write_byte};
 use join::Joined;

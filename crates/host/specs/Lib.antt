@@ -4,6 +4,6 @@ pub use Rattle.failure.specs.Failure
 pub mod Files
 pub use Rattle.host.specs.Files
 pub use Rattle.failure.specs.Writing
-pub mod Endings
 pub mod Reading
 pub mod Refusals
+pub mod internal

@@ -2,7 +2,7 @@
 
 ghost use Rattle.std.specs.Prelude.{◌≡◌};
 ghost use Rattle.std.specs.List.{flat_map};
-ghost use Rattle.host.specs.Endings.{status_of};
+ghost use Rattle.host.specs.internal.Endings.{status_of};
 ghost use Rattle.std.specs.IoError.{error_kind};
 ghost use Rattle.host.specs.Refusals.{Tells, TellsOther, file_line, memory_line, output_line, refusal_line};
 ghost use Rattle.failure.specs.Writing.{AppendsBeginning};

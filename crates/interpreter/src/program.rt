@@ -5,7 +5,7 @@ ghost use Rattle.ports.specs.Events.{IsBeginning};
 ghost use Rattle.typed_trees.specs.Jumps.{JumpsAreSound};
 ghost use Rattle.layout.specs.StartingMemory.{starting_memory};
 ghost use Rattle.placing.specs.Views.{placement_view};
-ghost use Rattle.declared.specs.Access.{modules_in};
+ghost use Rattle.join.specs.Views.{modules_in};
 ghost use Rattle.meaning.specs.Run.{source_run};
 ghost use Rattle.stack_machine.specs.Ends.{FaultCounts, stop_of};
 ghost use Rattle.interpreter.specs.Budgets.{FailsAt, Uses};

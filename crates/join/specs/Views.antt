@@ -1,8 +1,10 @@
 -- Faults of the code in the words of programs.
-use Rattle.std.specs.Prelude.{ℕ, List, codes}
+use Rattle.std.specs.Prelude.{ℕ, List, codes, map}
 use Rattle.join.specs.declared.fault.Fault.{Fault}
 use Rattle.join.specs.declared.fault.Fault.TheVariants as faults
 use Rattle.join.specs.declared.joined.Joined.{Joined}
+use Rattle.typed_trees.specs.TypedTrees.{TypedModule}
+use Rattle.typed_trees.specs.Views.{module_view}
 use Rattle.typed_trees.specs.declared.module.Typed.{Typed}
 use Rattle.layout.specs.Joined.{JoinRefusal, NoPublic, PublicTwice, DeclarationsDiffer, NotOneMain}
 
@@ -23,3 +25,6 @@ refusal_of faults.NotOneMain = NotOneMain
 -- the modules of a program
 abbrev pub modules_of : Joined → List Typed
 modules_of joined = joined.modules.items
+
+abbrev pub modules_in : Joined → List TypedModule
+modules_in joined = map module_view (modules_of joined)

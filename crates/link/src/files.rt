@@ -2,7 +2,7 @@
 
 ghost use Rattle.std.specs.Prelude.{◌≡◌};
 ghost use Rattle.object_modules.specs.Module.{IsObjectModule};
-ghost use Rattle.object_modules.specs.Walking.{module_by};
+ghost use Rattle.object_modules.specs.internal.Walks.{module_by};
 ghost use Rattle.objmod.specs.internal.Keeping.{ContentsFit};
 
 use crate::contents::add_contents;

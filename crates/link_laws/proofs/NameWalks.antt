@@ -2,8 +2,8 @@
 use Rattle.link_laws.proofs.Prelude.{◌≡◌, ℕ, ◌+◌, Bool, true, false, cond, not, nat_lt, Bor, List, [], ◌∷◌, ◌++◌, length, map, Option, None, Some, option_map, Result, Err, refl, ap, sym, subst, ◌∙◌, list_all, and_parts, position, position_or_len, bytes_eq, length-map, LinkRefusal, DuplicatePublic, Public, is_among, Walking, module_by, ContentsFit, gathered, missing_in, public_name}
 use Rattle.std.specs.Prelude.{IfSome}
 use Rattle.symbols.specs.Names.{is_name}
-use Rattle.object_modules.specs.Views.{public_view}
-use Rattle.object_modules.specs.Walking.{HandsOut}
+use Rattle.object_modules.specs.internal.Views.{public_view}
+use Rattle.object_modules.specs.internal.Walks.{HandsOut}
 use Rattle.object_modules.specs.declared.public.PublicName.{PublicName}
 
 -- a public more

@@ -6,8 +6,8 @@ ghost use Rattle.symbols.specs.Names.{is_name};
 ghost use Rattle.object_modules.specs.declared.segment.Segment.TheVariants.{Code, Data};
 ghost use Rattle.object_modules.specs.Displacements.{start_of};
 ghost use Rattle.object_modules.specs.Module.{ObjectModule, alignment_of, length_of};
-ghost use Rattle.object_modules.specs.Views.{public_view};
-ghost use Rattle.object_modules.specs.Walking.{HandsOut};
+ghost use Rattle.object_modules.specs.internal.Views.{public_view};
+ghost use Rattle.object_modules.specs.internal.Walks.{HandsOut};
 ghost use Rattle.link_laws.specs.internal.Growing.{grown_from};
 
 use crate::growing::GrowingSegment;

@@ -24,7 +24,7 @@ pub(crate) struct ModuleWalk<'a> {
 impl<'a> Model for ModuleWalk<'a> {
     ghost use Rattle.std.specs.Prelude.{◌≡◌, map};
     ghost use Rattle.object_modules.specs.Module.{IsObjectModule, ObjectModule as ObjectValue};
-    ghost use Rattle.object_modules.specs.Views.{owned_public_view};
+    ghost use Rattle.object_modules.specs.internal.Views.{owned_public_view};
 
     ghost Value = { ObjectValue };
 

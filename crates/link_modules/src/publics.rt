@@ -3,7 +3,7 @@
 ghost use Rattle.std.specs.Prelude.{◌≡◌, ◌++◌, map, slice_get, IfOk, OnOk};
 ghost use Rattle.std.specs.Option.{option_map};
 ghost use Rattle.object_modules.specs.Displacements.{all_publics, public_moved, public_named};
-ghost use Rattle.object_modules.specs.Views.{owned_public_view};
+ghost use Rattle.object_modules.specs.internal.Views.{owned_public_view};
 ghost use Rattle.link_laws.specs.internal.Passes.{name_of as name_in};
 
 use crate::linkable::Named;
@@ -23,7 +23,7 @@ pub(crate) struct Publics<'n, 'a> {
 impl<'n, 'a> Model for Publics<'n, 'a> {
     ghost use Rattle.std.specs.Prelude.{◌≡◌, List, map};
     ghost use Rattle.object_modules.specs.Module.{Public};
-    ghost use Rattle.object_modules.specs.Views.{owned_public_view};
+    ghost use Rattle.object_modules.specs.internal.Views.{owned_public_view};
     ghost use Rattle.link_laws.specs.internal.Passes.{name_of as name_in};
 
     ghost Value = { List Public };

@@ -4,7 +4,7 @@ ghost use Rattle.std.specs.Prelude.{◌≡◌, map, IfOk};
 ghost use Rattle.std.specs.List.{list_any};
 ghost use Rattle.std.specs.Option.{option_map};
 ghost use Rattle.object_modules.specs.Displacements.{public_named, start_of, target_of_public};
-ghost use Rattle.object_modules.specs.Views.{owned_public_view};
+ghost use Rattle.object_modules.specs.internal.Views.{owned_public_view};
 ghost use Rattle.link_laws.specs.internal.Growing.{gain_by, kept_by, meant_at, moves_by, resolved_in};
 
 use crate::linkable::Named;
@@ -24,7 +24,7 @@ pub struct Resolved {
 impl Model for Resolved {
     ghost use Rattle.std.specs.Prelude.{map};
     ghost use Rattle.std.specs.Option.{option_map};
-    ghost use Rattle.object_modules.specs.Views.{owned_public_view};
+    ghost use Rattle.object_modules.specs.internal.Views.{owned_public_view};
     ghost use Rattle.link_laws.specs.internal.Growing.{Resolved as ResolvedValue};
     ghost use Rattle.link_modules.specs.internal.Views.{start_view};
 

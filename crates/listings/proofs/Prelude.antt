@@ -5,7 +5,7 @@ unfoldable pub use Rattle.std.specs.Fmt.{digits}
 pub use Rattle.mem80.specs.declared.{memory.TheConstants.{MEMORY_SIZE}, range.Piece.{Piece}}
 pub use Rattle.typed_trees.specs.{Sizes.{size_of_object}, TypedTrees.{TypedModule, TypedObject, TypedProcedure}, Views.{module_view, object_view, procedure_view}, Weight.{constant_bytes, size_of_constant}, declared.module.{TypedObject.{TypedObject as CodeObject}, TypedProcedure.{TypedProcedure as CodeProcedure}}}
 pub use Rattle.layout.specs.Placement.{ModulePlacement, PieceKind, kind_of}
-pub use Rattle.object_modules.specs.{Image.{Symbol, range_at}, Module.{ObjectModule, Public, length_of}, Runs.{fixes_in}, Views.{owned_public_view}, declared.segment.{Fix.{Fix}, Segment.TheVariants.{Code}}}
+pub use Rattle.object_modules.specs.{Image.{Symbol, range_at}, Module.{ObjectModule, Public, length_of}, Runs.{fixes_in}, internal.Views.{owned_public_view}, declared.segment.{Fix.{Fix}, Segment.TheVariants.{Code}}}
 pub use Rattle.isa8080.proofs.EncodingLemmas.{read_back}
 pub use Rattle.isa8080.specs.{Code.{Form, One, Three, Two, Unknown, bytes_of, first_instruction, form_of, instruction_of}, State.{word}, Text.{byte_digits}, declared.instr.Instr.{Instr}}
 pub use Rattle.runtime8080.specs.declared.routine.Routine.{Routine}

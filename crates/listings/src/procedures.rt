@@ -3,7 +3,7 @@
 ghost use Rattle.std.specs.Prelude.{◌≡◌, ◌<◌, ◌≤◌, ◌==◌, IfOk, IfSome, Some, map, option_map, slice_get};
 ghost use Rattle.std.specs.List.{list_any};
 ghost use Rattle.std.specs.Str.{bytes_eq};
-ghost use Rattle.object_modules.specs.Views.{owned_public_view};
+ghost use Rattle.object_modules.specs.internal.Views.{owned_public_view};
 ghost use Rattle.typed_trees.specs.Views.{module_view, procedure_view};
 ghost use Rattle.typed_trees.specs.Weight.{constant_bytes};
 ghost use Rattle.listings.specs.Names.{code_place, is_code, public_place};

@@ -4,7 +4,7 @@ pub use Rattle.std.specs.{List.{AllByRecursion, cons_option, list_all, list_any}
 pub use Rattle.mem80.proofs.{Booleans.{same_test}, Options.{or_none_same}}
 pub use Rattle.mem80.specs.{Memory.{IsMemory, with_bytes}, Pieces.{AreApart, AreLongestRuns, AreWritable, EndsInMemory, IsLoaded, are_runs, byte_in, has_address, has_bytes}, Range.{Meets, ranges_meet}, declared.range.Piece.{Piece}, declared.range.Range.{Range}}
 pub use Rattle.object_modules.proofs.{Allowed.{allowed}, FixesOfRuns.{before_runs_fixes}, MovedBytes.{moved_is_byte}, Options.{none_either_way}, Pushed.{view_added}}
-pub use Rattle.object_modules.specs.{Before.{is_empty}, Image.{ExternalLeft, HighByteBroken, Image, NoStart, PageBroken, PassesMemory, PlacementRefusal, Plan, SegmentsMeet, at_address, base_of, breaks_page, code_range, data_range, gain_at, image_of, passes_memory, placed, placed_bytes, stack_range, symbol_at}, Merge.{unless_refused}, Module.{Fixup, IsObjectModule, ObjectModule, Places, SetByte, is_valid_byte, is_valid_segment, places_of}, Moving.{after_fixup, bytes_resolved, high_target, high_targets, moved_after, value_after, value_moved}, Runs.{bytes_of_run, fixes_of_run}, Text.{Run, before_runs, fixes_from, runs_from}, Views.{owned_public_view}, declared.segment.Fix.{Fix}, declared.segment.FixKind.{FixKind, TheVariants.{Both, High, Low}}, declared.segment.Segment.{Segment, TheVariants.{Code, Data}}, declared.segment.Target.{Target}}
+pub use Rattle.object_modules.specs.{Before.{is_empty}, Image.{ExternalLeft, HighByteBroken, Image, NoStart, PageBroken, PassesMemory, PlacementRefusal, Plan, SegmentsMeet, at_address, base_of, breaks_page, code_range, data_range, gain_at, image_of, passes_memory, placed, placed_bytes, stack_range, symbol_at}, Merge.{unless_refused}, Module.{Fixup, IsObjectModule, ObjectModule, Places, SetByte, is_valid_byte, is_valid_segment, places_of}, Moving.{after_fixup, bytes_resolved, high_target, high_targets, moved_after, value_after, value_moved}, Runs.{bytes_of_run, fixes_of_run}, Text.{Run, before_runs, fixes_from, runs_from}, internal.Views.{owned_public_view}, declared.segment.Fix.{Fix}, declared.segment.FixKind.{FixKind, TheVariants.{Both, High, Low}}, declared.segment.Segment.{Segment, TheVariants.{Code, Data}}, declared.segment.Target.{Target}}
 unfoldable pub use Rattle.object_modules.specs.{Image.{image_at, placement_refusal}, Runs.{fixes_in, runs_of}}
 pub use Rattle.object_modules.specs.internal.Joining.{before_fixes}
 pub use Rattle.locate.specs.Locating.{Absolute, IsPlaced, loaded, plan_view, symbol_view}

@@ -4,7 +4,7 @@ ghost use Rattle.std.specs.Prelude.{◌≡◌, ◌+◌, ◌≤◌, Err, IfOk, No
 ghost use Rattle.failure.specs.Failure.{IfFault};
 ghost use Rattle.object_modules.specs.Image.{base_of, image_of, placement_refusal, symbol_at};
 ghost use Rattle.object_modules.specs.Module.{places_of};
-ghost use Rattle.object_modules.specs.Views.{owned_public_view};
+ghost use Rattle.object_modules.specs.internal.Views.{owned_public_view};
 ghost use Rattle.locate.specs.Loading.{GivesItsImage};
 ghost use Rattle.locate.specs.Locating.{IsPlaced, plan_view, refusal_of, symbol_view};
 ghost use Rattle.locate.specs.internal.Images.{image_pieces, segment_pieces};

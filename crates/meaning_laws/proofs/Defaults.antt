@@ -1,6 +1,6 @@
 -- No case of the meaning that is there for trees that no source has is taken in a program.
 use Rattle.meaning_laws.proofs.Prelude.{◌≡◌, ℕ, ◌<◌, List, [], length, replicate, Some, slice_get, refl, sym, subst, All, length-replicate, All-weaker, recursion_from_All, MEMORY_SIZE, Address, ListStands, IsStorable, TypedStatements, TypedList, ListOf, TypedModule, Within, IsSoundlyTyped, Placement, StartsAs, starting_memory, starts_as, Surroundings, rest_from, Program, State, later_is_meant, rest_at, HasBytes, IsWhole, IsPlaceable, at_place}
-use Rattle.meaning_laws.specs.Defaults.{BeginsWith, BeginsWithAll, FindsBytes, KeepsBytes, TakesNoDefault, TakesNoDefaultIn}
+use Rattle.meaning_laws.specs.internal.Defaults.{BeginsWith, BeginsWithAll, FindsBytes, KeepsBytes, TakesNoDefault, TakesNoDefaultIn}
 use Rattle.meaning_laws.proofs.WritableBytes.{callee_has_bytes, counter_is_there, jump_takes_one, list_leaves_bytes, location_leaves_bytes, main_has_bytes, parameters_leave_bytes, scalar_is_there, statement_leaves_bytes, store_leaves_bytes, value_leaves_bytes, values_leave_bytes, variable_is_there}
 use Rattle.meaning_laws.proofs.Calls.{location_is_in_memory, values_are_counted}
 use Rattle.meaning_laws.proofs.Declared.{declared_in_memory}

@@ -4,7 +4,7 @@ pub use Rattle.std.specs.{List.{AllByRecursion, cons_option, enumerate_from, lis
 pub use Rattle.mem80.proofs.{Numbers.{remainder_in_memory}, Options.{both_are_none}}
 pub use Rattle.mem80.specs.declared.memory.TheConstants.{MEMORY_SIZE}
 pub use Rattle.trees.specs.{Trees.{ConstantOrigin, DeclarationTree, DeclarationTrees, DeclareTree, ElementTree, ElseTree, ItemElement, ItemTree, LiterallyElement, LocationOrigin, ModuleTree, MoreDeclarations, NoDeclarations, OffsetTree, OriginTree, ProcedureTree, RestrictedTree, StatementKindTree, StatementTree, StatementTrees, StringConstant, StringTree, SubjectTree, ValueListTree}, declared.declaration.Linkage.{Linkage, TheVariants.{External, Public}}, declared.declaration.ScalarType.{ScalarType, TheVariants.{Address, Byte}}, declared.identifier.Identifier.{Identifier}, declared.identifier.Place.{Place as WordPlace}}
-pub use Rattle.names.specs.{Environment.{into_list, is_declared_again}, Events.{labels_of}, Uses.{declared_by}, declared.entity.Binding.{Binding, TheVariants.{Declared}}, declared.entity.Entity.TheVariants.{Object, Procedure}}
+pub use Rattle.names.specs.{Environment.{into_list, is_declared_again}, DeclaredNames.{declared_by, labels_of}, declared.entity.Binding.{Binding, TheVariants.{Declared}}, declared.entity.Entity.TheVariants.{Object, Procedure}}
 pub use Rattle.typed_trees.specs.{ExpressionTypes.{type_of}, Frames.{AreParameters, HasParameters, home_of_parameters}, Globals.{ListsGlobals}, Jumps.{BodyIsSound, JumpsAreSound, ListStands}, ObjectParts.{IsPartOf, IsScalar, IsScalarOf}, Sizes.{count_of, scalars_of_element, scalars_of_elements, size_of_element, size_of_object, size_of_scalar}, Storable.{HasPlace, IsStorable}, TypedTrees.{AssignmentNode, AssignmentStatement, At, BasedOn, BinaryNode, CallNode, CallStatement, CaseStatement, ConversionNode, DoStatement, ElseStatement, Elsewhere, FunctionNode, GotoStatement, HaltStatement, Home, IfStatement, InConstants, InData, InFrame, InputNode, IterateStatement, LabelStatement, ListNode, ListOf, LocationNode, MoreArguments, MoreStatements, MoveStatement, NoArguments, NoElse, NoStatements, NoSubscript, Nowhere, NullStatement, NumberNode, ObjectType, PartOf, Placed, ReturnStatement, SentTo, ShiftNode, StoredIn, Subscript, TypedArguments, TypedElse, TypedExpression, TypedIteration, TypedList, TypedModule, TypedObject, TypedProcedure, TypedReference, TypedStatement, TypedStatements, TypedTarget, UnaryNode, ValueNode, WhileStatement}, WellTyped.{Counts, HasLocation, IsReturned, IsSeen, IsWellTyped, LiesFor, RefersToLocation, RefersToScalar, Takes, TypesHold, TypesHoldIn, TypesHoldInArguments, TypesHoldInElse, TypesHoldInHead, TypesHoldInList, TypesHoldInProcedure, TypesHoldInReference, TypesHoldInStatements, TypesHoldInSubscript, TypesHoldInTarget, TypesHoldInTargets, Within, WithinMain, WithinProcedure, types_of}, declared.limits.TheConstants.{FRAME_LIMIT, OBJECT_LIMIT}, declared.parts.AtAddress.{AtAddress}, declared.parts.InitialValue.{InitialValue, TheVariants.{ByteValue, LocationValue, WordValue}}, declared.parts.Visibility.{Visibility}}
 unfoldable pub use Rattle.typed_trees.specs.Charge.{charge_of}
 pub use Rattle.typing.proofs.{Kept.{Gives, gives_after, gives_fault, gives_ok, in_turn, is_found, required, then_more}, Parameters.Closing.{at_place}, Parameters.Opening.{opens_procedure}, Parameters.ParametersOfTexts.{Same, assignment_same, call_same, goto_same, iteration_same, return_same, value_same}, Tables.{keeps_append}}
@@ -15,5 +15,5 @@ pub use Rattle.layout.specs.{Joined.{DeclaredObject, DeclaredProcedure, InProgra
 unfoldable pub use Rattle.layout.specs.{StartingMemory.{starting_memory}}
 pub use Rattle.meaning.proofs.{AgreementStatements.{later_is_meant}, Kept.{follows_itself, reads_scalar}, KeptCalls.{later_keeps, sets_parameters}, KeptParts.{displacement_keeps, located_keeps, stored_keeps, value_keeps, values_keep}, KeptStatements.{list_keeps, statement_keeps}, LabelPlaces.{rest_at}, Staying.{Stays, body_stays, no_jump}}
 pub use Rattle.meaning.specs.{Access.{InMemory, Place, Surroundings, address_of, frame_bytes, home_in, home_of, is_constant, place_in, place_of, read_scalar}, Meaning.{Displacement, Later, based_place, called, callee_in, charged, displaced, displacement, done, done_list, entered, frame_of, is_frame_of, later_by, located, parameters_set, procedure_at, rest_from, stored, value, values}, Outcomes.{Flow, Gave, Jumped, Onward, Outcome, Outside, Program, Returned, State, Stopped, then_do}, Run.{main_done, number_of_main}, declared.reason.Reason.TheVariants.{Stack}, internal.Kept.{Continues, Extra, Follows, Keeps, jump_took, nothing_else}}
-pub use Rattle.meaning_laws.specs.Meant.{CallIsMeant, CalleeIsMeant, ChangesWritable, GivesBytes, GivesInMemory, GivesSoMany, HasAddress, HasBytes, HasMain, IsCallee, IsNamed, IsPlaced, IsThere, IsWhole, JumpTakesOne, Leaves, LeavesBytes, LeavesFrame, LeavesMain, LeavesProcedure, LiesThere, ListIsPlaced, ObjectIsMeant, OnlyWritableDiffer, ParametersAreThere, ReferenceIsMeant, VariableIsMeant}
-pub use Rattle.meaning_laws.specs.Places.{ArePlaceable, HasDeclaredBytes, IsPlaceable, LiesIfPublic, LocatesObject, LocatesObjects, LocationLies, LocationsLie, ObjectsLie, PublicsLie, StandsForBytes}
+pub use Rattle.meaning_laws.specs.internal.Meant.{CallIsMeant, CalleeIsMeant, ChangesWritable, GivesBytes, GivesInMemory, GivesSoMany, HasAddress, HasBytes, HasMain, IsCallee, IsNamed, IsPlaced, IsThere, IsWhole, JumpTakesOne, Leaves, LeavesBytes, LeavesFrame, LeavesMain, LeavesProcedure, LiesThere, ListIsPlaced, ObjectIsMeant, OnlyWritableDiffer, ParametersAreThere, ReferenceIsMeant, VariableIsMeant}
+pub use Rattle.meaning_laws.specs.internal.Places.{ArePlaceable, HasDeclaredBytes, IsPlaceable, LiesIfPublic, LocatesObject, LocatesObjects, LocationLies, LocationsLie, ObjectsLie, PublicsLie, StandsForBytes}

@@ -1,5 +1,1 @@
-pub mod Meant
-pub mod Named
-pub mod Places
-pub mod Defaults
 pub mod internal

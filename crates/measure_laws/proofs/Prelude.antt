@@ -27,7 +27,7 @@ unfoldable pub use Rattle.exprgen8080.specs.{internal.ByteOperators.{added_steps
 pub use Rattle.statements8080.specs.{internal.Assignments.{any_target, assignment_steps, count_by, count_of, count_of_form, each_at, each_steps, from_byte_steps, from_type, from_word_steps, is_address_first, is_one, is_value_of, number_steps, other_byte_steps, other_word_steps, several_by, several_steps, single_steps, store_at, takes_byte, takes_word, together_steps, types_by, value_steps}, internal.Bodies.{body_label, is_near, whole}, internal.Branches.{both_steps, branch, computed_if_steps, forever_steps, goto_label, goto_label_of, has_one_jump, if_steps, statement_if_any, tested_while_steps, then_steps, while_steps}, internal.Cases.{case_steps, entry_of, entry_of_statement, statement_at}, internal.Counters.{counter_of, counter_place, counts_by_one}, internal.Iterations.{add_byte_steps, add_de_steps, add_steps, add_word_to_byte_steps, asked_jump, asked_mark, below_steps, count_at_hl_steps, count_steps, counts_in_place, is_byte, is_byte_type, iteration_steps, loop_labels, next_byte_steps, next_steps, next_word_steps, step_in_de_steps, turns_if_any, turns_steps}, internal.Moves.{ends_steps, move_steps}, internal.Plans.{all, jump, label_at, mark, nth_label, part, plain, steps_from, word}, internal.Tests.{computed_test, facts_of_test, known_test, less_steps, word_at, word_test_by}, declared.body.Body.{Body}, declared.bound.Test.{Test}, declared.iteration.Counter.{Counter}, declared.plan.Planned.{Planned, TheVariants.{Again, JumpOn, Jumped, List as ListOf, Meet, Reaches, Statement, Turn}}}
 unfoldable pub use Rattle.statements8080.specs.{internal.Cases.{cases_end_steps, choice_at_steps, into_table_steps, number_in_de_steps, statements_steps, table_at, table_steps}, internal.Counters.{has_a_turn}, internal.Iterations.{asked_test_steps, facts_of_turn, first_steps, first_test_steps, general_begin_steps, general_end_steps, general_steps, next_turn_steps, step_steps, sum_of_byte_steps, sum_of_word_steps, test_label_steps, to_known_steps}, internal.Tests.{test_of, test_steps}}
 pub use Rattle.statements8080.proofs.Targets.{none_passes}
-pub use Rattle.codegen8080.specs.{internal.Generated.{AreAllCarriedOut, AreCarriedOut, HoldsNoStatement, IsCarriedOut, IsListCarriedOut, ListCarriedOut, ListPlanned, NoneCarriedOut, StatementCarriedOut, StatementPlanned, StepCarriedOut, byte_at_steps, jump_on_steps, site_of, word_at_steps}, internal.Modules.{AreCodeOf, AreRoutines, IsCodeOf, IsCodeOfMain, IsCodeOfRoutine, IsCodeWritten, IsEndCode, IsFrameOf, IsGenerated, IsOwnCode, IsProcedureCode, all_routines, contents_items, has_main}, internal.Procedures.{argument_step, entry_steps, is_address, pair_of, return_steps, store_argument, with_argument}, internal.Refusals.{CodeIsNone, DataAreNone, MayRefuse}, internal.Statements.{returned_value_steps}, Targets.{with_targets}, declared.fault.Fault.TheVariants.{TooLong}, declared.meeting.Here.{Here}}
+pub use Rattle.codegen8080.specs.{internal.Generated.{AreAllCarriedOut, AreCarriedOut, HoldsNoStatement, IsCarriedOut, IsListCarriedOut, ListCarriedOut, ListPlanned, NoneCarriedOut, StatementCarriedOut, StatementPlanned, StepCarriedOut, byte_at_steps, jump_on_steps, site_of, word_at_steps}, internal.Modules.{AreCodeOf, AreRoutines, IsCodeOf, IsCodeOfMain, IsCodeOfRoutine, IsCodeWritten, IsEndCode, IsFrameOf, IsGenerated, IsOwnCode, IsProcedureCode, all_routines, contents_items, has_main}, internal.Procedures.{argument_step, entry_steps, is_address, pair_of, return_steps, store_argument, with_argument}, internal.Refusals.{CodeIsNone, DataAreNone, MayRefuse}, internal.Statements.{returned_value_steps}, internal.Targets.{with_targets}, declared.fault.Fault.TheVariants.{TooLong}, declared.meeting.Here.{Here}}
 unfoldable pub use Rattle.codegen8080.specs.{internal.Generated.{carried_steps, load_byte_steps, load_word_steps}, internal.Procedures.{below_return_steps, drop_steps, end_steps, entry_steps_by, exchanged_steps, frame_entry_steps, kept_steps, known_from, last_argument_facts, odd_byte_steps, popped_at, popped_from, pops_steps, push_loop_steps, pushed_arguments_steps, pushes_steps, return_of_frame_steps, return_over_any_steps, return_over_steps, return_steps_by, static_entry_steps, stores_steps, zero_result_steps, zeros_steps}, internal.Statements.{return_of_steps, statement_steps}}
 pub use Rattle.measure_laws.specs.internal.Bounds.{size_of_content, size_of_contents, weight_of_body, weight_of_procedure, weight_of_range, weight_within}
 unfoldable pub use Rattle.measure_laws.specs.internal.Bounds.{bound_of_tree, weight_of_tree}

@@ -2,4 +2,4 @@ pub mod Memory
 pub mod Range
 pub mod Pieces
 pub mod Sums
-pub mod Plans
+pub mod internal

@@ -2,7 +2,7 @@
 #![tactic(auto)]
 
 ghost use Rattle.std.specs.Prelude.{◌≡◌};
-ghost use Rattle.mem80.specs.Plans.{stack_end_of};
+ghost use Rattle.mem80.specs.internal.Plans.{stack_end_of};
 
 /// Where the parts of a program are to lie.
 #[derive(Clone, Copy)]

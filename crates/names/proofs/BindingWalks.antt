@@ -3,7 +3,7 @@ use Rattle.names.proofs.Prelude.{◌≡◌, ℕ, List, [], ◌∷◌, ◌++◌, 
 use Rattle.failure.specs.declared.Failure.TheVariants as failures
 use Rattle.names.specs.declared.fault.Fault.TheVariants.{Unknown, DeclaredTwice}
 use Rattle.names.specs.BuiltIns.{binding_of, jump_of}
-use Rattle.names.specs.Binding.{bindings_of, fault_of, first_fault}
+use Rattle.names.specs.internal.Binding.{bindings_of, fault_of, first_fault}
 
 bind_more_twice : {A B C : Type 0} (first : Result A Fault) (second : A → Result B Fault)
     (third : B → Result C Fault) (both : A → Result C Fault)

@@ -2,3 +2,8 @@ pub mod Numbering
 pub mod TreesOfParts
 pub mod BindingWalks
 pub mod Examples
+pub mod Events
+pub mod Uses
+pub mod Binding
+pub mod Faults
+pub mod Declaring

@@ -4,10 +4,11 @@ ghost use Rattle.std.specs.Prelude.{◌≡◌, ◌∷◌, ◌++◌, map, Ok};
 ghost use Rattle.std.specs.List.{flat_map};
 ghost use Rattle.std.specs.Option.{option_map};
 ghost use Rattle.trees.specs.Trees.{ItemElement};
-ghost use Rattle.trees.specs.Views.{argument_trees, block_declarations, block_statements, declaration_tree, declaration_trees, element_tree, else_tree, expression_tree, heading_tree, iteration_tree, item_tree, kind_tree, statement_tree, statement_trees, subject_tree, target_trees};
+ghost use Rattle.trees.specs.internal.Views.{argument_trees, block_declarations, block_statements, declaration_tree, declaration_trees, element_tree, else_tree, expression_tree, heading_tree, iteration_tree, item_tree, kind_tree, statement_tree, statement_trees, subject_tree, target_trees};
 ghost use Rattle.names.specs.Environment.{into_block, into_body, into_list, out_of_block, out_of_body, out_of_list};
-ghost use Rattle.names.specs.Events.{in_body, see_else, declares_definition, declares_label, declares_object, declares_parameter, declares_procedure, in_list, jumps_to, labels_of, moves, see_all, see_block, see_cases, see_declaration, see_declarations, see_element, see_kind, see_statement, see_statements, uses_of};
-ghost use Rattle.names.specs.Uses.{declared_by, names_in_arguments, names_in_expression, names_in_iteration, names_in_optional, names_in_reference};
+ghost use Rattle.names.specs.internal.Events.{in_body, see_else, declares_definition, declares_label, declares_object, declares_parameter, declares_procedure, in_list, jumps_to, moves, see_all, see_block, see_cases, see_declaration, see_declarations, see_element, see_kind, see_statement, see_statements, uses_of};
+ghost use Rattle.names.specs.DeclaredNames.{declared_by, labels_of};
+ghost use Rattle.names.specs.internal.Uses.{names_in_arguments, names_in_expression, names_in_iteration, names_in_optional, names_in_reference};
 ghost use Rattle.names.specs.internal.TreesOfParts.{see_body, case_tree, do_tree, if_tree, iterate_tree, procedure_parts, while_tree};
 ghost use Rattle.names.specs.internal.BindingWalks.{Does, at_start, gives};
 

@@ -2,8 +2,8 @@
 
 ghost use Rattle.std.specs.Prelude.{◌≡◌, IfOk};
 ghost use Rattle.failure.specs.Failure.{IfFault};
-ghost use Rattle.trees.specs.Views.{module_tree};
-ghost use Rattle.names.specs.Binding.{IsBinding, IsFirstFault};
+ghost use Rattle.trees.specs.internal.Views.{module_tree};
+ghost use Rattle.names.specs.internal.Binding.{IsBinding, IsFirstFault};
 
 use crate::binder::Binder;
 use crate::{Binding, Fault};

@@ -25,7 +25,7 @@ impl Debug for Fault {
 
 impl Fault {
     ghost use Rattle.std.specs.Prelude.{◌≡◌};
-    ghost use Rattle.names.specs.Faults.{line_of, number_of, place_of};
+    ghost use Rattle.names.specs.internal.Faults.{line_of, number_of, place_of};
 
     /// The number by which the documentation and the command line know the fault.
     pub fn number(&self) -> &'static str

@@ -6,10 +6,10 @@ ghost use Rattle.std.specs.Str.{bytes_eq};
 ghost use Rattle.indexmap.specs.IndexSet.{insert_key};
 ghost use Rattle.failure.specs.declared.Failure.TheVariants as failures;
 ghost use Rattle.failure.specs.Failure.{IfFault};
-ghost use Rattle.trees.specs.Views.{statement_trees};
+ghost use Rattle.trees.specs.internal.Views.{statement_trees};
 ghost use Rattle.names.specs.BuiltIns.{binding_of, built_in_of, jump_of};
-ghost use Rattle.names.specs.Declaring.{Declares};
-ghost use Rattle.names.specs.Events.{labels_of};
+ghost use Rattle.names.specs.internal.Declaring.{Declares};
+ghost use Rattle.names.specs.DeclaredNames.{labels_of};
 ghost use Rattle.names.specs.internal.Numbering.{AreNumbered};
 ghost use Rattle.names.specs.Environment.{empty_body, at_the_start, body_after_block, body_with_name, is_declared_in, known_in, label_of, declared_in, declared_around, entity_of, is_among, is_declared_again, is_label_again, is_parameter_again, into_block, out_of_block, into_body, out_of_body, into_list, out_of_list, numbered_from, with_object, with_procedure, with_definition, with_parameter, with_label};
 

@@ -1,10 +1,10 @@
 //! Uses of names in expressions.
 
-ghost use Rattle.trees.specs.Views.{argument_trees, expression_tree, item_tree, iteration_tree, reference_tree, restricted_tree, subject_tree, target_trees};
+ghost use Rattle.trees.specs.internal.Views.{argument_trees, expression_tree, item_tree, iteration_tree, reference_tree, restricted_tree, subject_tree, target_trees};
 ghost use Rattle.std.specs.Prelude.{[], ◌∷◌, ◌++◌, map};
 ghost use Rattle.std.specs.List.{flat_map};
 ghost use Rattle.std.specs.Option.{option_map};
-ghost use Rattle.names.specs.Uses.{names_in_arguments, names_in_bounds, names_in_expression, names_in_item, names_in_iteration, names_in_optional, names_in_reference, names_in_restricted, names_in_subject};
+ghost use Rattle.names.specs.internal.Uses.{names_in_arguments, names_in_bounds, names_in_expression, names_in_item, names_in_iteration, names_in_optional, names_in_reference, names_in_restricted, names_in_subject};
 ghost use Rattle.names.specs.internal.BindingWalks.{Does, bound_at};
 
 use crate::{Binding, Fault, Scopes};

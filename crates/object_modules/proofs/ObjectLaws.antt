@@ -2,7 +2,7 @@
 use Rattle.object_modules.proofs.Prelude.{◌≡◌, IsTrue, [], map, refl, ap, sym, subst, ◌∙◌, list_all, length-map-range_with_len, Absolute, Code, Data, Stack, ObjectModule, length_of, places_of, set_in, are_longest, is_in_a_run, runs_from}
 use Rattle.object_modules.specs.declared.object.ModuleParts.{ModuleParts}
 use Rattle.object_modules.specs.Runs.{runs_of, fixes_in, fixed_run}
-use Rattle.object_modules.specs.Views.{AreKept, module_of_parts}
+use Rattle.object_modules.specs.internal.Views.{AreKept, module_of_parts}
 use Rattle.object_modules.proofs.StoredRuns.{contents_kept, stored_bytes, stored_fixes, stored_runs}
 
 pub code_length : (parts : ModuleParts) → (parts.code).size ≡ length_of (module_of_parts parts) Code

@@ -16,5 +16,4 @@ pub mod Moving
 pub mod Displacements
 pub mod Merge
 pub mod Image
-pub mod Views
 pub mod internal

@@ -8,3 +8,5 @@ pub mod Accepted
 pub mod Links
 pub mod Placements
 pub mod Joining
+pub mod Views
+pub mod Walks

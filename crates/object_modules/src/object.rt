@@ -6,7 +6,7 @@ ghost use Rattle.object_modules.specs.Module.{IsObjectModule, alignment_of, leng
 ghost use Rattle.object_modules.specs.Runs.{fixed_run, fixes_in, runs_of};
 ghost use Rattle.object_modules.specs.Stored.{are_longest, fixes_ascend, is_in_a_run};
 ghost use Rattle.object_modules.specs.Text.{runs_from};
-ghost use Rattle.object_modules.specs.Views.{AreKept, module_of_parts, owned_public_view, public_view};
+ghost use Rattle.object_modules.specs.internal.Views.{AreKept, module_of_parts, owned_public_view, public_view};
 
 use crate::public::{OwnedPublic, PublicName};
 use crate::segment::{Alignment, Fix, Segment};
@@ -39,7 +39,7 @@ pub struct ObjectModule {
 
 impl Model for ObjectModule {
     ghost use Rattle.object_modules.specs.Module.{ObjectModule as ObjectValue};
-    ghost use Rattle.object_modules.specs.Views.{AreKept, module_of_parts};
+    ghost use Rattle.object_modules.specs.internal.Views.{AreKept, module_of_parts};
 
     ghost Value = { ObjectValue };
 

@@ -26,7 +26,7 @@ pub struct PublicName<'a> {
 
 impl OwnedPublic {
     ghost use Rattle.std.specs.Prelude.{◌≡◌};
-    ghost use Rattle.object_modules.specs.Views.{owned_public_view, public_view};
+    ghost use Rattle.object_modules.specs.internal.Views.{owned_public_view, public_view};
 
     /// The same public name, with the characters that stand here.
     pub fn borrowed(&self) -> PublicName<'_>

@@ -11,3 +11,4 @@ pub mod Judging
 pub mod States
 -- What proofs of walks speak of.
 pub mod Cursors
+pub mod Views

@@ -6,7 +6,7 @@ ghost use Rattle.object_modules.specs.Module.{IsObjectModule, alignment_of, leng
 ghost use Rattle.object_modules.specs.Parts.{part_bytes};
 ghost use Rattle.object_modules.specs.Spelling.{Spells};
 ghost use Rattle.object_modules.specs.Text.{header_for, segment_parts, text_of, with_publics_in_order};
-ghost use Rattle.object_modules.specs.Views.{owned_public_view};
+ghost use Rattle.object_modules.specs.internal.Views.{owned_public_view};
 ghost use Rattle.failure.specs.Writing.{AppendsBeginning};
 ghost use Rattle.object_writing.specs.internal.Texts.{names_text, publics_text, rest_text};
 

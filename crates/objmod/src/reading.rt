@@ -5,7 +5,7 @@ ghost use Rattle.failure.specs.Failure.{IfFault};
 ghost use Rattle.object_modules.specs.Module.{IsObjectModule, ObjectModule as ObjectValue};
 ghost use Rattle.object_modules.specs.Spelling.{HasFirstFault, Spells};
 ghost use Rattle.object_modules.specs.Text.{text_of, with_publics_in_order};
-ghost use Rattle.object_modules.specs.Walking.{module_by};
+ghost use Rattle.object_modules.specs.internal.Walks.{module_by};
 ghost use Rattle.objmod.specs.internal.Keeping.{ContentsFit};
 ghost use Rattle.objmod.specs.Streams.{HasReadFault, ReadsModule, TakesSome};
 

@@ -1,2 +1,4 @@
 -- Worked records.
 pub mod Examples
+pub mod Numbers
+pub mod Views

@@ -21,7 +21,7 @@ pub enum Fault {
 
 impl Fault {
     ghost use Rattle.std.specs.Prelude.{◌≡◌};
-    ghost use Rattle.omf80.specs.Numbers.{number_of};
+    ghost use Rattle.omf80.specs.internal.Numbers.{number_of};
 
     /// The number by which the documentation knows the fault.
     pub fn number(&self) -> &'static str

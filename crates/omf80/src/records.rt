@@ -4,7 +4,7 @@ ghost use Rattle.std.specs.Prelude.{◌≡◌, ℕ, ◌+◌, ◌-◌, ◌*◌, �
 ghost use Rattle.std.specs.Io.KnownBytes.{Appends};
 ghost use Rattle.mem80.specs.Sums.{checksum_of};
 ghost use Rattle.omf80.specs.Records.{BeginsWith, kind_of_type, record_fault, first_body, record_end, record_bytes, stated_length, word_bytes};
-ghost use Rattle.omf80.specs.Views.{record_view};
+ghost use Rattle.omf80.specs.internal.Views.{record_view};
 ghost use Rattle.failure.specs.Writing.{AppendsBeginning};
 
 use crate::fault::Fault;

@@ -1,7 +1,7 @@
 -- Which bytes pieces have, by how far those reach that start at each address.
 use Rattle.placing.proofs.Prelude.{◌≡◌, ℕ, zero, suc, ◌+◌, ◌<◌, ◌≤◌, min, max, Bool, true, false, cond, List, [], ◌∷◌, length, take, get_or, Decides, refl, ap, sym, subst, ◌∙◌, arith, fold, filter, replicate, ◌||◌, ◌&&◌, nat_le, nat_lt, list_any, or_assoc, dec_le, length-set, length-replicate, false≢true, nat_tests, MEMORY_SIZE, Range, PlacedPiece, IsOneOf, holds_byte, is_constant_piece, Decides-one_of, Undeclared, ReachTables, no_ends, no_reaches, end_of, raised, with_end, with_piece, with_pieces, reach_below, is_covered, byte_kind, kind_in, or-false}
 use Rattle.placing.specs.declared.table.ByteKind.{ByteKind}
-use Rattle.placing.specs.Tables.{IsKind, IsTableOf}
+use Rattle.placing.specs.internal.Tables.{IsKind, IsTableOf}
 
 -- a greatest number with one more
 fold_with :

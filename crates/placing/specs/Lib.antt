@@ -1,4 +1,3 @@
 pub mod Views
-pub mod Tables
 pub mod Segments
 pub mod internal

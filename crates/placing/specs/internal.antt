@@ -1,3 +1,4 @@
 pub mod Placings
 pub mod Reaches
 pub mod Claims
+pub mod Tables

@@ -5,7 +5,7 @@ ghost use Rattle.mem80.specs.declared.memory.TheConstants.{MEMORY_SIZE};
 ghost use Rattle.typed_trees.specs.Views.{module_view};
 ghost use Rattle.layout.specs.Placement.{pieces_of, pieces_of_module};
 ghost use Rattle.join.specs.Views.{modules_of};
-ghost use Rattle.placing.specs.Tables.{IsTableOf};
+ghost use Rattle.placing.specs.internal.Tables.{IsTableOf};
 ghost use Rattle.placing.specs.Views.{module_placement_view, placement_view};
 ghost use Rattle.placing.specs.internal.Reaches.{byte_kind, kind_in};
 

@@ -1,4 +1,3 @@
-pub use Rattle.statement_laws.specs.Targets
 pub use Rattle.statement_laws.specs.ProgramTypes
 pub mod Calls
 pub mod Main

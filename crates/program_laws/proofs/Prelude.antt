@@ -26,7 +26,7 @@ pub use Rattle.treecode_laws.specs.{internal.Laid.{IsLaidOut, IsStored}, interna
 pub use Rattle.frames.proofs.Homes.{earlier_kept}
 pub use Rattle.frames.specs.internal.Frames.{HasFrame}
 pub use Rattle.steps8080.specs.{internal.Externals.{Extends, entry}, internal.Instructions.{high, low}, internal.Writer.{Written, in_front, known_label, numbered, numbered_reference, place_of_known, place_of_label, stack_end_item}}
-pub use Rattle.procedure_laws.specs.{internal.GeneratedModules.{AreCodeOf, ArePublicsOf, AreRoutines, AreTargets, IsAtPlace, IsCodeOf, IsCodeOfMain, IsCodeOfRoutine, IsGenerated, IsMainCode, IsNamed, IsOwnCode, IsProcedureCode, IsPublicOf, IsRoutineCode, IsSegmentOf, all_routines, contents_items, has_main, used_names}, Targets.{retargeted}}
+pub use Rattle.procedure_laws.specs.{internal.GeneratedModules.{AreCodeOf, ArePublicsOf, AreRoutines, AreTargets, IsAtPlace, IsCodeOf, IsCodeOfMain, IsCodeOfRoutine, IsGenerated, IsMainCode, IsNamed, IsOwnCode, IsProcedureCode, IsPublicOf, IsRoutineCode, IsSegmentOf, all_routines, contents_items, has_main, used_names}, internal.Targets.{retargeted}}
 pub use Rattle.code_meaning.proofs.{Lawful.{placement_lies}, Sequences.{both_there}}
 pub use Rattle.code_meaning.specs.{internal.Activations.{Activation, IsThere, Loaded, MayChange, Shares}, internal.Holding.{place_at}, Landing.{IsHalted, IsLeft, at_place}}
 pub use Rattle.procedure_laws.proofs.{SiteNodes.{have_operands}, NumbersOfTrees.{IsTypedCode, has_types, numbers_of_lowered}}

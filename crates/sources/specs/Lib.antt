@@ -9,6 +9,5 @@ pub mod Faults
 pub mod internal
 pub mod ProgramFaults
 pub mod Programs
-pub use Rattle.typed_laws.specs.Facts
 pub use Rattle.typed_laws.specs.GlobalNames
 pub use Rattle.layout.specs.Sound

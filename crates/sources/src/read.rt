@@ -5,7 +5,7 @@ ghost use Rattle.failure.specs.Failure.{IfFault};
 ghost use Rattle.words.specs.declared.limits.TheConstants.{LONGEST_SOURCE};
 ghost use Rattle.words.specs.Spelling.{lexemes_of};
 ghost use Rattle.grammar.specs.Derivation.{Derives};
-ghost use Rattle.trees.specs.Views.{module_tree};
+ghost use Rattle.trees.specs.internal.Views.{module_tree};
 ghost use Rattle.typed_trees.specs.Frames.{FramesFit, ParametersFit};
 ghost use Rattle.typed_trees.specs.Globals.{ListsGlobals};
 ghost use Rattle.typed_trees.specs.Jumps.{JumpsAreSound};

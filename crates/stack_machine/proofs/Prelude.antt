@@ -10,7 +10,8 @@ pub use Rattle.placing.specs.Views.{placement_view}
 pub use Rattle.meaning.specs.{Access.{InMemory, InTheFrame, Place, Surroundings, read_scalar, write_byte, write_scalar}, Meaning.{frame_of, moved, procedure_at}, Outcomes.{Ended, Gave, Outcome, Outside, Program, State, Stop, Stopped, then_do}, declared.reason.Reason.{Reason, TheVariants.{Byte as UndeclaredByte, Stack}}}
 pub use Rattle.stack_code.specs.{internal.Machine.{Call, Done, Going, Machine, Progress, after_first, and_then_steps, argument_of, arguments_now, below, calling, carried_out, entering, is_begin, leaving, parameter_set, progress_of, pushing, spending, step, steps, top}, internal.Program.{AreTablesOf, entry_in, entry_of}, internal.Run.{stack_run, start_surroundings, started}, declared.instruction.Instruction.{Instruction}, declared.program.Entry.{Entry}, declared.program.ModuleTable.{ModuleTable}}
 pub use Rattle.declared.proofs.Meanings.{after_write, answered, byte_read_means, byte_written_means, current_written, frame_scalar_means, frame_written_means, scalar_read_means, scalar_written_means, written_then, zeroed_frame_means}
-pub use Rattle.declared.specs.{Access.{Written, byte_read, byte_written, modules_in, next_address, refused, scalar_read, scalar_written, then_write, written}, internal.Frames.{ModuleFrames, current_frame, frame_scalar, frame_with_scalar, module_frames, with_current, zeroed_frame}}
+pub use Rattle.declared.specs.{internal.Access.{Written, byte_read, byte_written, next_address, refused, scalar_read, scalar_written, then_write, written}, internal.Frames.{ModuleFrames, current_frame, frame_scalar, frame_with_scalar, module_frames, with_current, zeroed_frame}}
+pub use Rattle.join.specs.Views.{modules_in}
 pub use Rattle.stack_machine.specs.Ends.{stop_of}
 pub use Rattle.stack_machine.specs.internal.Runs.{Reaches, ReachesCall, Stops, state_at_start}
 unfoldable pub use Rattle.stack_machine.specs.internal.Runs.{ReachesFault}

@@ -1,7 +1,8 @@
 //! Instructions one after another.
 
 ghost use Rattle.std.specs.Prelude.{◌≡◌, IfErr, IfOk, OnErr, OnOk, map};
-ghost use Rattle.declared.specs.Access.{AreKindsOf, modules_in};
+ghost use Rattle.declared.specs.internal.Access.{AreKindsOf};
+ghost use Rattle.join.specs.Views.{modules_in};
 ghost use Rattle.declared.specs.internal.Frames.{module_frames};
 ghost use Rattle.stack_code.specs.internal.Machine.{steps};
 ghost use Rattle.stack_code.specs.internal.Program.{AreTablesOf};

@@ -23,7 +23,8 @@ pub struct Loaded<'a> {
 impl Loaded<'_> {
     ghost use Rattle.std.specs.Prelude.{◌≡◌};
     ghost use Rattle.placing.specs.Views.{placement_view};
-    ghost use Rattle.declared.specs.Access.{AreKindsOf, modules_in, scalar_read, scalar_written};
+    ghost use Rattle.declared.specs.internal.Access.{AreKindsOf, scalar_read, scalar_written};
+    ghost use Rattle.join.specs.Views.{modules_in};
 
     /// Reads the scalar at an address of the memory.
     #[inline(always)]

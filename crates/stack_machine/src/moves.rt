@@ -2,7 +2,8 @@
 
 ghost use Rattle.std.specs.Prelude.{◌≡◌};
 ghost use Rattle.placing.specs.Views.{placement_view};
-ghost use Rattle.declared.specs.Access.{AreKindsOf, modules_in};
+ghost use Rattle.declared.specs.internal.Access.{AreKindsOf};
+ghost use Rattle.join.specs.Views.{modules_in};
 ghost use Rattle.stack_machine.specs.internal.Moves.{bytes_moved};
 
 use declared::{read_byte, write_byte};

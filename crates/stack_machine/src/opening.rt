@@ -1,7 +1,7 @@
 //! Frames of procedures.
 
 ghost use Rattle.std.specs.Prelude.{◌≡◌, ◌∷◌, OnOk, map};
-ghost use Rattle.declared.specs.Access.{modules_in};
+ghost use Rattle.join.specs.Views.{modules_in};
 ghost use Rattle.declared.specs.internal.Frames.{module_frames};
 ghost use Rattle.meaning.specs.Meaning.{procedure_at};
 ghost use Rattle.stack_machine.specs.internal.Opened.{IsThere, frame_opened};

@@ -3,7 +3,8 @@
 ghost use Rattle.std.specs.Prelude.{◌≡◌, IfErr, IfOk, OnErr, OnOk};
 ghost use Rattle.typed_trees.specs.Views.{module_view};
 ghost use Rattle.placing.specs.Views.{placement_view};
-ghost use Rattle.declared.specs.Access.{AreKindsOf, modules_in};
+ghost use Rattle.declared.specs.internal.Access.{AreKindsOf};
+ghost use Rattle.join.specs.Views.{modules_in};
 ghost use Rattle.stack_code.specs.internal.Program.{AreTablesOf};
 ghost use Rattle.stack_code.specs.internal.Run.{stack_run, start_surroundings};
 ghost use Rattle.stack_machine.specs.Ends.{FaultCounts, stop_of};

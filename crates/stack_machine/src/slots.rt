@@ -1,7 +1,7 @@
 //! The slots of frames.
 
 ghost use Rattle.std.specs.Prelude.{◌≡◌, IfOk, map};
-ghost use Rattle.declared.specs.Access.{modules_in};
+ghost use Rattle.join.specs.Views.{modules_in};
 ghost use Rattle.declared.specs.internal.Frames.{module_frames};
 
 use declared::FrameSlots;

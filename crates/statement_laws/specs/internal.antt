@@ -6,3 +6,4 @@ pub use Rattle.task_laws.specs.internal.Contexts as CodeContexts
 pub use Rattle.task_laws.specs.internal.Tasks
 pub mod Bodies
 pub mod Statements
+pub use Rattle.codegen8080.specs.internal.Targets

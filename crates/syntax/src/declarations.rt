@@ -2,7 +2,7 @@
 
 ghost use Rattle.std.specs.Prelude.{◌≡◌, Ok, map};
 ghost use Rattle.std.specs.Option.{option_map};
-ghost use Rattle.trees.specs.Views.{origin_tree, restricted_tree, item_type_tree, at_tree, value_list_tree, subject_tree, item_tree, element_tree, heading_tree, offset_tree};
+ghost use Rattle.trees.specs.internal.Views.{origin_tree, restricted_tree, item_type_tree, at_tree, value_list_tree, subject_tree, item_tree, element_tree, heading_tree, offset_tree};
 ghost use Rattle.syntax.specs.internal.Declarations.{origin, next_sign, all_offsets, restricted, next_scalar, scalar, result_type, count, dimension_inside, dimension, member, item_type, next_linkage, linkage, at, next_storage, value_list, base, names, item_after, structure, definition, single_item, group_element, element_after, element, parameters, reentrant, heading};
 ghost use Rattle.syntax.specs.internal.Results.{Gives};
 ghost use Rattle.syntax.specs.internal.Lists.{items};

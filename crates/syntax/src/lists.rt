@@ -68,7 +68,7 @@ impl<'a> Reader<'a> {
 
 impl Listed for Constant {
     ghost use Rattle.trees.specs.Trees.{ConstantTree};
-    ghost use Rattle.trees.specs.Views.{constant_tree};
+    ghost use Rattle.trees.specs.internal.Views.{constant_tree};
     ghost use Rattle.syntax.specs.internal.Reader.{constant};
 
     ghost Tree = { ConstantTree };
@@ -114,7 +114,7 @@ impl Listed for Member {
 
 impl Listed for Restricted {
     ghost use Rattle.trees.specs.Trees.{RestrictedTree};
-    ghost use Rattle.trees.specs.Views.{restricted_tree};
+    ghost use Rattle.trees.specs.internal.Views.{restricted_tree};
     ghost use Rattle.syntax.specs.internal.Declarations.{restricted};
 
     ghost Tree = { RestrictedTree };
@@ -130,7 +130,7 @@ impl Listed for Restricted {
 
 impl Listed for Element {
     ghost use Rattle.trees.specs.Trees.{ElementTree};
-    ghost use Rattle.trees.specs.Views.{element_tree};
+    ghost use Rattle.trees.specs.internal.Views.{element_tree};
     ghost use Rattle.syntax.specs.internal.Declarations.{element};
 
     ghost Tree = { ElementTree };

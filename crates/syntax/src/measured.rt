@@ -5,7 +5,7 @@ ghost use Rattle.grammar.specs.Forms.{expression_level, negation_level, relation
 ghost use Rattle.grammar.specs.internal.Forms.{left_level, unary_level_of};
 ghost use Rattle.grammar.specs.Nesting.{expression_height, reference_height, arguments_height};
 ghost use Rattle.trees.specs.Trees.{ConstantLeaf, ReferenceLeaf, LocationLeaf, ListLeaf, ParenthesizedNode, AssignmentNode, UnaryNode, BinaryNode, ReferenceTo, NoMember, MemberOf, NoArguments};
-ghost use Rattle.trees.specs.Views.{constant_tree, expression_tree, reference_tree, argument_trees, reference_of, is_reference_leaf};
+ghost use Rattle.trees.specs.internal.Views.{constant_tree, expression_tree, reference_tree, argument_trees, reference_of, is_reference_leaf};
 ghost use Rattle.syntax.specs.internal.Expressions.{top_level};
 
 use std::alloc::{AllocError, Global};

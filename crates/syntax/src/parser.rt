@@ -7,7 +7,7 @@ ghost use Rattle.grammar.specs.declared.TheConstants.{NESTING_LIMIT};
 ghost use Rattle.grammar.specs.Derivation.{Derives, DerivesAtMostOne, DerivesButForDepth, DerivesButForEndName, DerivesModule};
 ghost use Rattle.grammar.specs.Symbols.{symbols_of};
 ghost use Rattle.trees.specs.Trees.{ModuleTree};
-ghost use Rattle.trees.specs.Views.{module_tree};
+ghost use Rattle.trees.specs.internal.Views.{module_tree};
 ghost use Rattle.syntax.specs.Faults.{IsOfDepth, IsOfEndName, IsRefused, IsWrongWith};
 ghost use Rattle.syntax.specs.internal.Results.{cause_of, Gives};
 ghost use Rattle.syntax.specs.internal.Inside.{Makes, block_trees};

@@ -4,7 +4,7 @@ ghost use Rattle.std.specs.Prelude.{◌≡◌, ◌≢◌, ◌↔◌, MatchOption
 ghost use Rattle.words.specs.Spelling.{lexeme_of};
 ghost use Rattle.grammar.specs.Symbols.{symbol_of, MarkSymbol, ReservedSymbol};
 ghost use Rattle.words.specs.Strings.{characters_of, unquoted};
-ghost use Rattle.trees.specs.Views.{constant_tree, string_tree};
+ghost use Rattle.trees.specs.internal.Views.{constant_tree, string_tree};
 ghost use Rattle.syntax.specs.internal.Expressions.{operator_of, next_operator};
 ghost use Rattle.syntax.specs.internal.Results.{left_of, cause_of, next_place, unexpected_of, Gives, Leaves, OrMemory};
 ghost use Rattle.syntax.specs.internal.Reader.{Cause, Unexpected, TooDeep, at_mark, at_word, is_semicolon, keeps_place, place_of_word, next_semicolon, next_name, mark, word, semicolon, taken, name, number, string, constant, string_constant, number_constant};

@@ -6,7 +6,7 @@ ghost use Rattle.words.specs.Spelling.{lexeme_of};
 ghost use Rattle.grammar.specs.declared.TheConstants.{NESTING_LIMIT};
 ghost use Rattle.grammar.specs.Forms.{expression_level};
 ghost use Rattle.grammar.specs.Symbols.{symbol_of};
-ghost use Rattle.trees.specs.Views.{expression_tree, reference_tree, argument_trees, statement_tree, kind_tree, else_tree, statement_trees, declaration_tree, declaration_trees, iteration_tree};
+ghost use Rattle.trees.specs.internal.Views.{expression_tree, reference_tree, argument_trees, statement_tree, kind_tree, else_tree, statement_trees, declaration_tree, declaration_trees, iteration_tree};
 ghost use Rattle.syntax.specs.internal.Expressions.{expression, reference, arguments};
 ghost use Rattle.syntax.specs.internal.Results.{cause_of, Gives, Leaves};
 ghost use Rattle.syntax.specs.internal.Inside.{block_in, block_trees, condition, value, is_name_symbol, kind_inside, next_beginning};

@@ -3,7 +3,7 @@ use Rattle.std.proofs.Common.{◌≡◌, ap, refl}
 use Rattle.trees.specs.declared.expression.Reference.{Row_of-Expression, end_of-Expression, more_of-Expression, items-the_row-Expression}
 use Rattle.trees.specs.declared.statement.Block.{Row_of-Declaration, end_of-Declaration, more_of-Declaration, items-the_row-Declaration, Row_of-Statement, end_of-Statement, more_of-Statement, items-the_row-Statement}
 use Rattle.trees.specs.Trees.{MoreArguments, LabelledStatement, MoreStatements, MoreDeclarations}
-use Rattle.trees.specs.Views.{expression_tree, row_trees, argument_trees, kind_tree, statement_rows, statement_trees, declaration_tree, declaration_rows, declaration_trees}
+use Rattle.trees.specs.internal.Views.{expression_tree, row_trees, argument_trees, kind_tree, statement_rows, statement_trees, declaration_tree, declaration_rows, declaration_trees}
 
 pub row_trees_are : (n : _) (row : Row_of-Expression n)
     → row_trees row ≡ argument_trees (items-the_row-Expression n row)

@@ -1,3 +1,3 @@
 pub use Rattle.symbols.specs.contracts.name.NamePartialEq as NameEquality
 pub mod Trees
-pub mod Views
+pub mod internal

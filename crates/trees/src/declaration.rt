@@ -123,7 +123,7 @@ pub enum Element {
 impl Element {
     ghost use Rattle.std.specs.Prelude.{◌≡◌, IfOk};
     ghost use Rattle.trees.specs.Trees.{LiterallyElement, ItemElement};
-    ghost use Rattle.trees.specs.Views.{element_tree, item_tree, string_tree};
+    ghost use Rattle.trees.specs.internal.Views.{element_tree, item_tree, string_tree};
 
     /// `name LITERALLY string`
     pub fn literally(

@@ -103,7 +103,7 @@ impl Selector {
 
 impl Reference {
     ghost use Rattle.std.specs.Prelude.{◌≡◌, IfOk};
-    ghost use Rattle.trees.specs.Views.{member_tree, reference_of, reference_tree};
+    ghost use Rattle.trees.specs.internal.Views.{member_tree, reference_of, reference_tree};
 
     /// The reference to what `base` names, or to a member of it.
     #[tactic(auto, using(crate::specs::declared::expression::Reference::the_lemmas, crate::proofs::Views::row_trees_are))]
@@ -131,7 +131,7 @@ impl Expression {
     ghost use Rattle.std.specs.Prelude.{◌≡◌, false, map, IfOk, IfErr};
     ghost use Rattle.trees.specs.Trees.{ConstantLeaf, ReferenceLeaf, LocationLeaf, ListLeaf};
     ghost use Rattle.trees.specs.Trees.{ParenthesizedNode, AssignmentNode, UnaryNode, BinaryNode};
-    ghost use Rattle.trees.specs.Views.{MakesExpression, constant_tree, expression_tree, reference_tree, is_reference_leaf};
+    ghost use Rattle.trees.specs.internal.Views.{MakesExpression, constant_tree, expression_tree, reference_tree, is_reference_leaf};
 
     /// A number or a string.
     pub fn constant(constant: Constant) -> Expression

@@ -39,7 +39,7 @@ pub enum Constant {
 impl Constant {
     ghost use Rattle.std.specs.Prelude.{◌≡◌, IfOk};
     ghost use Rattle.trees.specs.Trees.{NumberConstant, StringConstant};
-    ghost use Rattle.trees.specs.Views.{constant_tree, string_tree};
+    ghost use Rattle.trees.specs.internal.Views.{constant_tree, string_tree};
 
     /// A number.
     pub fn number(number: Number) -> Constant

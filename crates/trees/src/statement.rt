@@ -108,7 +108,7 @@ pub struct DoCase {
 impl Statement {
     ghost use Rattle.std.specs.Prelude.{◌≡◌};
     ghost use Rattle.trees.specs.Trees.{LabelledStatement};
-    ghost use Rattle.trees.specs.Views.{kind_tree, statement_tree};
+    ghost use Rattle.trees.specs.internal.Views.{kind_tree, statement_tree};
 
     /// A statement with these labels before it, in their order.
     pub fn new(labels: Vec<Identifier>, kind: StatementKind) -> Statement
@@ -124,9 +124,9 @@ impl StatementKind {
     ghost use Rattle.trees.specs.Trees.{NullStatement, AssignmentStatement, CallStatement, ReturnStatement};
     ghost use Rattle.trees.specs.Trees.{HaltStatement, GotoStatement, IfStatement, DoStatement, WhileStatement};
     ghost use Rattle.trees.specs.Trees.{IterateStatement, CaseStatement};
-    ghost use Rattle.trees.specs.Views.{MakesKind, target_trees, argument_trees, expression_tree, iteration_tree};
-    ghost use Rattle.trees.specs.Views.{else_tree, kind_tree, statement_tree, statement_trees};
-    ghost use Rattle.trees.specs.Views.{block_declarations, block_statements};
+    ghost use Rattle.trees.specs.internal.Views.{MakesKind, target_trees, argument_trees, expression_tree, iteration_tree};
+    ghost use Rattle.trees.specs.internal.Views.{else_tree, kind_tree, statement_tree, statement_trees};
+    ghost use Rattle.trees.specs.internal.Views.{block_declarations, block_statements};
 
     /// `;`
     pub fn null(place: Place) -> StatementKind
@@ -302,7 +302,7 @@ pub enum Declaration {
 impl Declaration {
     ghost use Rattle.std.specs.Prelude.{◌≡◌, map, IfOk};
     ghost use Rattle.trees.specs.Trees.{DeclareTree};
-    ghost use Rattle.trees.specs.Views.{element_tree, declaration_tree, procedure_tree};
+    ghost use Rattle.trees.specs.internal.Views.{element_tree, declaration_tree, procedure_tree};
 
     /// DECLARE and its elements.
     pub fn declare(elements: Vec<Element>) -> Declaration

@@ -1,7 +1,7 @@
 //! Calls of procedures and of built-in functions.
 
 ghost use Rattle.std.specs.Prelude.{◌≡◌, IfOk, Ok, slice_get};
-ghost use Rattle.trees.specs.Views.{argument_trees};
+ghost use Rattle.trees.specs.internal.Views.{argument_trees};
 ghost use Rattle.typed_trees.specs.Views.{arguments_view, expression_view, procedure_view};
 ghost use Rattle.typing.specs.internal.Expressions.{arguments};
 ghost use Rattle.typing.specs.internal.Functions.{built_in_value, call_arguments, call_of, input_value, number_of_variable, shift_function, unary_function};

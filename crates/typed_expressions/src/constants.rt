@@ -1,7 +1,7 @@
 //! Constants and the numbers that they stand for.
 
 ghost use Rattle.std.specs.Prelude.{◌≡◌, ◌++◌, map, IfOk};
-ghost use Rattle.trees.specs.Views.{constant_tree, offset_tree};
+ghost use Rattle.trees.specs.internal.Views.{constant_tree, offset_tree};
 ghost use Rattle.typing.specs.Constants.{place_of_constant as place_in_constant, moved_by as sum_moved_by, number_of_characters as characters_number, bytes_of_constant, bytes_of_constants as list_bytes, bytes_of_number};
 ghost use Rattle.typing.specs.internal.ConstantChecks.{number_of_constant as constant_number, with_offsets as sum_with_offsets};
 ghost use Rattle.typing.specs.internal.Results.{Answers};

@@ -2,7 +2,7 @@
 
 ghost use Rattle.std.specs.Prelude.{map};
 ghost use Rattle.trees.specs.Trees.{ListLeaf};
-ghost use Rattle.trees.specs.Views.{argument_trees, constant_tree, expression_tree, reference_tree, target_trees};
+ghost use Rattle.trees.specs.internal.Views.{argument_trees, constant_tree, expression_tree, reference_tree, target_trees};
 ghost use Rattle.typed_trees.specs.Views.{arguments_view, expression_view, object_view, subscript_view, type_view};
 ghost use Rattle.typing.specs.internal.Expressions.{arguments, expression, given_reference, number_node};
 ghost use Rattle.typing.specs.internal.ReferenceChecks.{destination_of, location_of, part_of, part_with_member, scalar_part};

@@ -1,7 +1,7 @@
 //! Restricted expressions: where AT puts objects, and what INITIAL and DATA fill them with.
 
 ghost use Rattle.std.specs.Prelude.{◌≡◌, ◌<◌, IfSome, [], ◌∷◌, map, vec_items};
-ghost use Rattle.trees.specs.Views.{offset_tree, origin_tree, restricted_tree, string_tree};
+ghost use Rattle.trees.specs.internal.Views.{offset_tree, origin_tree, restricted_tree, string_tree};
 ghost use Rattle.typed_trees.specs.Sizes.{scalars_of_elements};
 ghost use Rattle.typed_trees.specs.Views.{home_view, type_view};
 ghost use Rattle.names.specs.declared.entity.Binding.TheVariants.{Declared};

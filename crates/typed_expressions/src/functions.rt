@@ -1,7 +1,7 @@
 //! The results of the built-in functions.
 
 ghost use Rattle.std.specs.Prelude.{◌≡◌, false, Ok, IfSome, IfNone};
-ghost use Rattle.trees.specs.Views.{argument_trees};
+ghost use Rattle.trees.specs.internal.Views.{argument_trees};
 ghost use Rattle.typed_trees.specs.Views.{arguments_view, expression_view, object_view};
 ghost use Rattle.typing.specs.internal.Functions.{function_of, measure_node as node_of_measure, measure_of, measured_member, measured_object, measurement, shift_of};
 ghost use Rattle.typed_expressions.specs.internal.Given.{is_plain, measured_view, plain_tree, selector_tree};

@@ -2,7 +2,7 @@
 
 ghost use Rattle.std.specs.Prelude.{◌≡◌, None, Ok, IfOk, IfSome, IfNone};
 ghost use Rattle.trees.specs.Trees.{MoreArguments, NoArguments};
-ghost use Rattle.trees.specs.Views.{argument_trees, expression_tree};
+ghost use Rattle.trees.specs.internal.Views.{argument_trees, expression_tree};
 ghost use Rattle.typed_trees.specs.Views.{arguments_view, home_view, object_view, subscript_view, type_view};
 ghost use Rattle.typing.specs.References.{number_of_arguments, has_location as located, is_constant as constant, scalar_of as scalar_in};
 ghost use Rattle.typing.specs.internal.ReferenceChecks.{takes_subscripts as do_take, subscript_of as subscript_for, whole_part as whole, is_writable, port_from, port_of, port_of_character as character_port, without_member};

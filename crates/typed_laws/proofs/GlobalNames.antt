@@ -6,7 +6,7 @@ use Rattle.std.proofs.{Common.{append-nil}, lemmas.Option.{slice_get-map}, lemma
 use Rattle.trees.specs.declared.declaration.Linkage.{Linkage}
 use Rattle.typed_trees.specs.declared.parts.GlobalItem.{GlobalItem}
 use Rattle.typed_trees.specs.declared.parts.GlobalItem.TheVariants.{GlobalObject, GlobalProcedure}
-use Rattle.names.specs.{Environment.{Here, Names, is_declared_again, with_object}, Uses.{declared_by}, declared.entity.Entity.{Entity}}
+use Rattle.names.specs.{Environment.{Here, Names, is_declared_again, with_object}, DeclaredNames.{declared_by}, declared.entity.Entity.{Entity}}
 use Rattle.typing.proofs.{Parameters.Grown.{all_append, all_more}, Parameters.ParameterItems.{not_again}, Tables.{names_with}, Walked.{object_names, procedure_names}}
 use Rattle.typing.specs.{Blocks.{declares_parameter, with_global}, Modules.{module_with}}
 use Rattle.layout.specs.Joined.{Global, first_repeated, global_object, global_of, global_procedure}

@@ -7,7 +7,7 @@ use Rattle.trees.specs.declared.declaration.Linkage.{Linkage}
 use Rattle.trees.specs.declared.identifier.Place.{Place}
 use Rattle.typed_trees.specs.declared.limits.TheConstants.{PARAMETER_LIMIT}
 use Rattle.typed_trees.specs.declared.parts.GlobalItem.TheVariants.{GlobalObject, GlobalProcedure}
-use Rattle.names.specs.{BuiltIns.{jump_of}, Environment.{Body, Here, after_body, into_body, into_list, is_declared_again, is_label_again, out_of_body, out_of_list, with_label, with_object, with_procedure}, Events.{labels_of}, Uses.{declared_by}}
+use Rattle.names.specs.{BuiltIns.{jump_of}, Environment.{Body, Here, after_body, into_body, into_list, is_declared_again, is_label_again, out_of_body, out_of_list, with_label, with_object, with_procedure}, DeclaredNames.{labels_of}, DeclaredNames.{declared_by}}
 use Rattle.typing.proofs.Walked.{object_names, procedure_names}
 use Rattle.typing.specs.Blocks.{declares_parameter, is_module, is_module_level, is_reentrant, with_global}
 use Rattle.typing.specs.Statements.{with_constants}

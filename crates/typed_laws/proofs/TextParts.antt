@@ -1,7 +1,7 @@
 -- The objects and the procedures of a text stand, from part to part.
 use Rattle.typed_laws.proofs.Prelude.{◌≡◌, ℕ, zero, suc, ◌+◌, ◌<◌, Bool, true, List, [], ◌∷◌, ◌++◌, length, map, Some, nat_le, refl, sym, ap, ◌∙◌, subst, length-append, arith, slice_get, slice_set, is_some, not, AllByRecursion, map-append, none-some, Identifier, DeclarationTree, DeclarationTrees, DeclareTree, ElementTree, ElseTree, HeadingTree, ItemElement, ItemTree, LiterallyElement, MoreDeclarations, NoDeclarations, ProcedureTree, StatementKindTree, StatementTree, StatementTrees, IsElement, IsItem, FRAME_LIMIT, OBJECT_LIMIT, size_of_object, Home, InData, InConstants, Placed, BasedOn, Elsewhere, Nowhere, InFrame, TypedList, TypedObject, TypedProcedure, TypedStatements, AtNumber, AtObject, DeclaredTwice, ExternalContents, TooLarge, Block, OfProcedure, Owner, Progress, TheModule, is_external, Checked, require, TypedItem, declare_element, declare_elements, declare_item, declare_names, place_of_item, object_named, size_of_item, with_objects, with_typed_object, arguments, check_body, close_procedure, own_block, parameter_objects, parameter_types, procedure_with, Known, place_of, declare_labels, labels_before, list_of, with_here, without_label, alone, cases, declaration, declarations, else_part, entered, inner_block, kind, statements, Gives, gives_after, gives_ok, in_turn, then_more, Keeps, keeps_append, heading_procedure, Opened, opens_procedure, front_or_back, Same, assignment_same, call_same, goto_same, iteration_same, return_same, value_same, AreFormed, ElseIsFormed, IsFormed, KindIsFormed, StatementIsFormed, StatementsAreFormed, got_first}
 use Rattle.trees.specs.Trees as trees
-use Rattle.names.specs.{Environment.{Here, is_declared_again, into_list}, Events.{labels_of}, Uses.{declared_by}}
+use Rattle.names.specs.{Environment.{Here, is_declared_again, into_list}, DeclaredNames.{labels_of}, DeclaredNames.{declared_by}}
 use Rattle.typing.specs.internal.Typing.{labelled}
 use Rattle.typed_laws.proofs.DeclaredObjects.{HomeStands, OwnerFlag, typed_item_stands}
 

@@ -1,3 +1,2 @@
-pub mod Facts
-pub mod Limits
 pub mod GlobalNames
+pub mod internal

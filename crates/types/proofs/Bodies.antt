@@ -1,6 +1,6 @@
 -- A procedure from its heading and its inside.
 use Rattle.types.proofs.Prelude.{◌≡◌, ℕ, true, List, length, Option, Ok, Err, ap, sym, refl, ◌∙◌, subst, HeadingTree, DeclarationTrees, StatementTrees, TypedList, Fault, Checked, ◌>>=◌, Block, Progress, FailsBy, fails_more, open_procedure, close_procedure, parameter_objects, list_of, declarations, statements, heading_tree}
-use Rattle.trees.specs.{Views.{block_declarations, block_statements}, declared.statement.Procedure.{Procedure, out-Procedure}}
+use Rattle.trees.specs.{internal.Views.{block_declarations, block_statements}, declared.statement.Procedure.{Procedure, out-Procedure}}
 use Rattle.names.specs.internal.TreesOfParts.{procedure_parts}
 use Rattle.typing.specs.{Blocks.{OfProcedure}, internal.ProcedureChecks.{check_body}, internal.Typing.{declaration}}
 use Rattle.types.specs.internal.Walking.{procedure_closed, procedure_inside}

@@ -1,2 +1,1 @@
-pub mod Declares
 pub mod internal

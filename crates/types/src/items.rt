@@ -2,7 +2,7 @@
 
 ghost use Rattle.std.specs.Prelude.{◌≡◌, [], ◌∷◌, length, map, min, nat_le, is_some, Ok};
 ghost use Rattle.std.specs.Option.{option_map};
-ghost use Rattle.trees.specs.Views.{element_tree, item_tree, subject_tree, value_list_tree};
+ghost use Rattle.trees.specs.internal.Views.{element_tree, item_tree, subject_tree, value_list_tree};
 ghost use Rattle.std.specs.List.{list_any};
 ghost use Rattle.trees.specs.declared.identifier.Identifier.{Identifier as TheIdentifier};
 ghost use Rattle.trees.specs.declared.identifier.Number.{Number as TheNumber};
@@ -11,7 +11,7 @@ ghost use Rattle.typed_trees.specs.declared.limits.TheConstants.{OBJECT_LIMIT as
 ghost use Rattle.typing.specs.declared.fault.Cause.TheVariants.{TooLarge};
 ghost use Rattle.typing.specs.internal.Checks.{require as required};
 ghost use Rattle.typed_trees.specs.Views.{home_view, object_view, type_view};
-ghost use Rattle.names.specs.Uses.{declared_by};
+ghost use Rattle.names.specs.DeclaredNames.{declared_by};
 ghost use Rattle.typing.specs.Items as items;
 ghost use Rattle.typing.specs.internal.ItemChecks as checks;
 ghost use Rattle.types.specs.internal.DeclareItems.{base_named, base_numbered, bytes_with, fitting_item, item_placed, listed_extents, object_listed, placed_item, structure_of, with_last_object, with_names};

@@ -3,9 +3,9 @@
 ghost use Rattle.std.specs.Prelude.{◌≡◌, not, ◌||◌, [], ◌∷◌, drop, length, map, slice_set, take, unwrap_or, IfOk, OnOk};
 ghost use Rattle.trees.specs.declared.declaration.ScalarType.TheVariants.{Byte};
 ghost use Rattle.failure.specs.Failure.{IfFault};
-ghost use Rattle.trees.specs.Views.{declaration_tree, declaration_trees, element_tree, heading_tree, item_type_tree, kind_tree, reference_tree, statement_tree, statement_trees, subject_tree};
+ghost use Rattle.trees.specs.internal.Views.{declaration_tree, declaration_trees, element_tree, heading_tree, item_type_tree, kind_tree, reference_tree, statement_tree, statement_trees, subject_tree};
 ghost use Rattle.names.specs.Environment.{into_body};
-ghost use Rattle.names.specs.Uses.{declared_by};
+ghost use Rattle.names.specs.DeclaredNames.{declared_by};
 ghost use Rattle.typed_trees.specs.Views.{list_view, procedure_view};
 ghost use Rattle.typing.specs.Blocks.{is_external, is_reentrant};
 ghost use Rattle.typing.specs.Statements.{place_of_kind, place_of_statement, place_of_targets};

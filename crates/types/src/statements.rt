@@ -3,7 +3,7 @@
 ghost use Rattle.std.specs.Prelude.{◌≡◌, ◌==◌, [], ◌∷◌, length, map, Ok, Some, IfNone, IfOk, IfSome};
 ghost use Rattle.trees.specs.declared.declaration.ScalarType.TheVariants.{Address};
 ghost use Rattle.std.specs.Option.{option_map};
-ghost use Rattle.trees.specs.Views.{argument_trees, expression_tree, iteration_tree, target_trees};
+ghost use Rattle.trees.specs.internal.Views.{argument_trees, expression_tree, iteration_tree, target_trees};
 ghost use Rattle.names.specs.declared.entity.Binding.TheVariants.{BuiltInName, Declared};
 ghost use Rattle.names.specs.declared.entity.BuiltIn.TheVariants.{Move};
 ghost use Rattle.names.specs.declared.entity.Entity.TheVariants.{Object, Procedure};

@@ -2,7 +2,7 @@
 
 ghost use Rattle.std.specs.Prelude.{◌≡◌, Ok, Err, IfOk, OnOk};
 ghost use Rattle.failure.specs.Failure.{IfFault};
-ghost use Rattle.trees.specs.Views.{block_declarations, block_statements, declaration_tree, declaration_trees, else_tree, kind_tree, module_tree, statement_tree, statement_trees};
+ghost use Rattle.trees.specs.internal.Views.{block_declarations, block_statements, declaration_tree, declaration_trees, else_tree, kind_tree, module_tree, statement_tree, statement_trees};
 ghost use Rattle.names.specs.internal.TreesOfParts.{case_tree, do_tree, if_tree, iterate_tree, procedure_parts, while_tree};
 ghost use Rattle.typed_trees.specs.Views.{else_view, list_view, module_view, procedure_view, statement_view, statements_view};
 ghost use Rattle.typing.specs.internal.StatementChecks.{list_of};
@@ -13,13 +13,13 @@ ghost use Rattle.typed_trees.specs.Jumps.{JumpsAreSound};
 ghost use Rattle.typed_trees.specs.Storable.{IsStorable};
 ghost use Rattle.typed_trees.specs.WellTyped.{IsWellTyped};
 ghost use Rattle.typed_trees.specs.Numbers.{NumbersFitInModule};
-ghost use Rattle.typing.specs.Untyped.{GivesBack};
+ghost use Rattle.typing.specs.internal.Untyped.{GivesBack};
 ghost use Rattle.typing.specs.internal.Typing.{alone, cases, declaration, declarations, else_part, kind, statements, typing_of};
 ghost use Rattle.typing.specs.Modules.{entered, left, main_procedure, module_with};
 ghost use Rattle.typing.specs.internal.Results.{Answers, Gives, Leaves};
 ghost use Rattle.typing_rules.specs.Modules.{ModuleTyping};
 ghost use Rattle.typing_rules.specs.ModuleFaults.{ModuleFault};
-ghost use Rattle.types.specs.Declares.{Declares};
+ghost use Rattle.types.specs.internal.Declares.{Declares};
 ghost use Rattle.types.specs.internal.Views.{block_view, progress_view};
 ghost use Rattle.types.specs.internal.Walking.{inside_view, list_left, listing, module_body, procedure_inside, statement_with_labels};
 

@@ -9,7 +9,7 @@ use Rattle.trees.specs.declared.declaration.Storage.TheVariants.{Initial, Data}
 use Rattle.trees.specs.declared.identifier.Identifier.{Identifier}
 use Rattle.trees.specs.declared.identifier.Place.{Place}
 use Rattle.trees.specs.Trees.{ValueListTree, SubjectTree, SingleSubject, GroupSubject, ItemTree}
-use Rattle.names.specs.Uses.{declared_by}
+use Rattle.names.specs.DeclaredNames.{declared_by}
 use Rattle.typed_trees.specs.declared.parts.AtAddress.{AtAddress}
 use Rattle.typed_trees.specs.declared.parts.ConstantItem.TheVariants.{ConstantObject}
 use Rattle.typed_trees.specs.declared.parts.GlobalItem.TheVariants.{GlobalObject}

@@ -8,7 +8,5 @@ pub mod Items
 pub mod Statements
 pub mod Procedures
 pub mod Modules
-pub mod Untyped
 pub mod internal
 pub use Rattle.typed_trees.specs.Frames
-pub use Rattle.names.specs.Binding

@@ -8,7 +8,7 @@ use Rattle.trees.specs.declared.declaration.ScalarType.TheVariants.{Byte}
 use Rattle.trees.specs.declared.identifier.Identifier.{Identifier}
 use Rattle.trees.specs.Trees.{ItemTypeTree, ScalarItem, StructureItem, ElementTree, LiterallyElement, ItemElement, HeadingTree, DeclarationTree, DeclareTree, ProcedureTree, DeclarationTrees, NoDeclarations, MoreDeclarations}
 use Rattle.names.specs.Environment.{Here, is_among, out_of_body}
-use Rattle.names.specs.Uses.{declared_by}
+use Rattle.names.specs.DeclaredNames.{declared_by}
 use Rattle.typed_trees.specs.declared.parts.Visibility.{Visibility}
 use Rattle.typed_trees.specs.declared.parts.Visibility.TheVariants.{Private, Public, External}
 use Rattle.typed_trees.specs.declared.parts.GlobalItem.TheVariants.{GlobalProcedure}

@@ -18,3 +18,5 @@ pub mod GivenBack
 pub mod Refusals
 pub mod Scopes
 pub mod Tables
+pub mod Untyped
+pub use Rattle.names.specs.internal.Binding

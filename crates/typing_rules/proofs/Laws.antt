@@ -9,7 +9,7 @@ use Rattle.typed_trees.specs.TypedTrees.{TypedModule}
 use Rattle.typing.specs.internal.Results.{Answers}
 use Rattle.typing.specs.internal.Typing.{typing_of}
 use Rattle.typing_rules.specs.internal.Following.{FollowsTheRules}
-use Rattle.typing_rules.specs.Laws.{IsJudgedOnce}
+use Rattle.typing_rules.specs.internal.Laws.{IsJudgedOnce}
 use Rattle.typing_rules.specs.Modules.{ModuleTyping}
 use Rattle.typing_rules.specs.ModuleFaults.{ModuleFault}
 use Rattle.typing_rules.proofs.ModulesJudged.{module_judged}

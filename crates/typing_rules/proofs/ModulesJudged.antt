@@ -4,7 +4,7 @@ use Rattle.typing_rules.proofs.Prelude.{ℕ, ◌+◌, [], ◌∷◌, length, ref
 use Rattle.trees.specs.Trees.{StatementTree, LabelledStatement, StatementKindTree, NullStatement, AssignmentStatement, CallStatement, ReturnStatement, HaltStatement, GotoStatement, IfStatement, DoStatement, WhileStatement, IterateStatement, CaseStatement, ElseTree, NoElse, ElseStatement, StatementTrees, NoStatements, MoreStatements, DeclarationTree, DeclareTree, ProcedureTree, DeclarationTrees, NoDeclarations, MoreDeclarations, ModuleTree}
 use Rattle.names.specs.BuiltIns.{jump_of}
 use Rattle.names.specs.Environment.{into_list}
-use Rattle.names.specs.Events.{labels_of}
+use Rattle.names.specs.DeclaredNames.{labels_of}
 use Rattle.typing.specs.Blocks.{Block, Progress}
 use Rattle.typing.specs.Procedures.{own_block}
 use Rattle.typing.specs.Statements.{with_here, with_constants}

@@ -9,7 +9,7 @@ use Rattle.trees.specs.declared.identifier.Identifier.{Identifier}
 use Rattle.trees.specs.declared.identifier.Number.{Number}
 use Rattle.trees.specs.Trees.{StringTree, ItemTypeTree, StructureItem, AtTree, ValueListTree, SubjectTree, ItemTree, ElementTree, LiterallyElement, ItemElement}
 use Rattle.names.specs.Environment.{Here, with_object, is_declared_again}
-use Rattle.names.specs.Uses.{declared_by}
+use Rattle.names.specs.DeclaredNames.{declared_by}
 use Rattle.typed_trees.specs.declared.limits.TheConstants.{OBJECT_LIMIT, FRAME_LIMIT}
 use Rattle.typed_trees.specs.declared.parts.AtAddress.{AtAddress}
 use Rattle.typed_trees.specs.declared.parts.TypedMember.{TypedMember}

@@ -12,5 +12,4 @@ pub mod Items
 pub mod ItemFaults
 pub mod Modules
 pub mod ModuleFaults
-pub mod Laws
 pub mod internal

@@ -10,7 +10,7 @@ use Rattle.names.specs.declared.entity.Binding.TheVariants.{Declared}
 use Rattle.names.specs.declared.entity.Entity.TheVariants.{Label}
 use Rattle.names.specs.BuiltIns.{jump_of}
 use Rattle.names.specs.Environment.{Here, into_list}
-use Rattle.names.specs.Events.{labels_of}
+use Rattle.names.specs.DeclaredNames.{labels_of}
 use Rattle.typed_trees.specs.TypedTrees.{TypedExpression, TypedIteration, TypedStatement, TypedProcedure, Constants}
 use Rattle.typing.specs.declared.fault.Cause.TheVariants.{UnknownName, ArgumentCount, CallOfTyped, CallOfNoProcedure, ReturnMismatch, ReturnOutside, MisplacedLabel, UnknownLabel}
 use Rattle.typing.specs.declared.fault.Fault.{Fault}

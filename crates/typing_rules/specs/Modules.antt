@@ -13,7 +13,7 @@ use Rattle.names.specs.declared.entity.Binding.TheVariants.{Declared}
 use Rattle.names.specs.declared.entity.Entity.TheVariants.{Label}
 use Rattle.names.specs.BuiltIns.{jump_of}
 use Rattle.names.specs.Environment.{Here, into_list, out_of_list}
-use Rattle.names.specs.Events.{labels_of}
+use Rattle.names.specs.DeclaredNames.{labels_of}
 use Rattle.typed_trees.specs.TypedTrees.{TypedExpression, TypedArguments, NoArguments as NoTypedArguments, MoreArguments, TypedIteration, TypedStatement, NullStatement as TypedNull, CallStatement as TypedCall, MoveStatement, ReturnStatement as TypedReturn, HaltStatement as TypedHalt, GotoStatement as TypedGoto, IfStatement as TypedIf, DoStatement as TypedDo, WhileStatement as TypedWhile, IterateStatement as TypedIterate, CaseStatement as TypedCase, TypedElse, NoElse as NoTypedElse, ElseStatement as TypedElseStatement, TypedStatements, NoStatements as NoTyped, MoreStatements as MoreTyped, TypedList, ListOf, TypedProcedure, TypedModule, Constants}
 use Rattle.typing.specs.Nodes.{as_type, arguments_as, Destination}
 use Rattle.typing.specs.References.{number_of_arguments}

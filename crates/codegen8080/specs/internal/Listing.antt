@@ -13,7 +13,7 @@ use Rattle.steps8080.specs.internal.Externals.{entry}
 use Rattle.steps8080.specs.internal.Writer.{place_of_known}
 use Rattle.codegen8080.specs.internal.Modules.{IsAtPlace, has_main, used_names}
 use Rattle.codegen8080.specs.internal.Names.{Linkage}
-use Rattle.codegen8080.specs.Targets.{with_targets}
+use Rattle.codegen8080.specs.internal.Targets.{with_targets}
 use Rattle.codegen8080.specs.internal.Segments.{retarget}
 
 -- a name, if code has a number for it

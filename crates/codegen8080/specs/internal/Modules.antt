@@ -41,7 +41,7 @@ use Rattle.codegen8080.specs.declared.meeting.Here.{Here}
 use Rattle.codegen8080.specs.internal.Generated.{AreCarriedOut, IsListCarriedOut}
 use Rattle.codegen8080.specs.internal.Labelled.{AreStepsLabelled, IsListLabelled}
 use Rattle.codegen8080.specs.internal.Procedures.{end_steps, entry_labels, entry_steps}
-use Rattle.codegen8080.specs.Targets.{with_targets}
+use Rattle.codegen8080.specs.internal.Targets.{with_targets}
 
 -- the items of a piece of a segment
 abbrev pub content_items : Content → List Item

@@ -4,7 +4,7 @@ use Rattle.command_line.specs.declared.orders.Action.TheVariants.{Run}
 use Rattle.command_line.specs.declared.start_memory.MemoryByte.{MemoryByte}
 use Rattle.command_line.specs.declared.values.InputByte.{InputByte}
 use Rattle.clap.specs.Words.{Text}
-use Rattle.command_line.specs.Command.{usual}
+use Rattle.command_line.specs.internal.Orders.{usual}
 use Rattle.command_line.specs.Settings.{NamedPort, fill_read, input_bytes, limit_number, memory_bytes, plan_number}
 use Rattle.command_line.specs.Settings.{output_file, output_files_read, port_file, port_files_read, values_read}
 

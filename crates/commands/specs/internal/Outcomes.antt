@@ -5,7 +5,7 @@ use Rattle.cpu8080.specs.Machine.{Machine}
 use Rattle.cpu8080.specs.declared.machine.End.{End}
 use Rattle.meaning.specs.Outcomes.{Stop}
 use Rattle.meaning.specs.Run.{Run}
-use Rattle.host.specs.Endings.{status_of}
+use Rattle.host.specs.internal.Endings.{status_of}
 use Rattle.host.specs.declared.endings.Ending.{Ending}
 use Rattle.host.specs.declared.endings.Ending.TheVariants.{Refused, WrongLine}
 use Rattle.command_line.specs.Settings.{Values}

@@ -2,7 +2,8 @@
 use Rattle.std.specs.Prelude.{ℕ, List, ◌++◌, Option}
 use Rattle.clap.specs.Words.{Text}
 use Rattle.host.specs.Files.{Directory}
-use Rattle.command_line.specs.Command.{Wanted, execute_in, program_in, wants_execute, wants_program}
+use Rattle.command_line.specs.Command.{Wanted, wants_execute, wants_program}
+use Rattle.command_line.specs.internal.Orders.{execute_in, program_in}
 use Rattle.command_line.specs.Settings.{Read, Values, execute_read, values_read}
 use Rattle.commands.specs.declared.runs.RunOrder.{RunOrder}
 use Rattle.commands.specs.declared.runs.RunOrder.TheVariants.{Objects, Sources}

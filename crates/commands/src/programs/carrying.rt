@@ -1,10 +1,10 @@
 //! Orders on sources, carried out.
 
 ghost use Rattle.std.specs.Prelude.{◌≡◌, ◌++◌, map};
-ghost use Rattle.host.specs.Endings.{status_of};
+ghost use Rattle.host.specs.internal.Endings.{status_of};
 ghost use Rattle.host.specs.Refusals.{TellsOther, TellsRefusal};
 ghost use Rattle.host.specs.Files.{KeepsFiles};
-ghost use Rattle.command_line.specs.Command.{program_in};
+ghost use Rattle.command_line.specs.internal.Orders.{program_in};
 ghost use Rattle.command_line.specs.Settings.{values_in};
 ghost use Rattle.sources.specs.Programs.{texts_of};
 ghost use Rattle.commands.specs.InputFiles.{input_names};

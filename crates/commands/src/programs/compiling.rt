@@ -3,7 +3,7 @@
 ghost use Rattle.std.specs.Prelude.{◌≡◌, ◌⊎◌, ◌∷◌, [], IfOk};
 ghost use Rattle.host.specs.Failure.{IfFault};
 ghost use Rattle.host.specs.Refusals.{TellsRefusal};
-ghost use Rattle.command_line.specs.Command.{compile_in};
+ghost use Rattle.command_line.specs.internal.Orders.{compile_in};
 ghost use Rattle.object_commands.specs.Linking.{KeepsOthers};
 ghost use Rattle.tool.specs.Sources.{IsRefusedAlone};
 ghost use Rattle.commands.specs.Compiling.{CompilesFile, CompilesTo, StopsCompiling};

@@ -1,7 +1,7 @@
 //! What is printed of programs that are run or interpreted.
 
 ghost use Rattle.std.specs.Prelude.{◌≡◌, ◌≤◌, [], IfOk, OnErr, length, map};
-ghost use Rattle.host.specs.Endings.{status_of};
+ghost use Rattle.host.specs.internal.Endings.{status_of};
 ghost use Rattle.command_line.specs.Settings.{values_in};
 ghost use Rattle.command_line.specs.declared.orders.Action.TheVariants.{Run};
 ghost use Rattle.sources.specs.Programs.{IsProgramOf, program_modules, texts_of};

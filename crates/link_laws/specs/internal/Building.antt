@@ -14,7 +14,7 @@ use Rattle.object_modules.specs.Rules.{fix_end}
 use Rattle.object_modules.specs.Runs.{runs_of, fixes_in}
 use Rattle.object_modules.specs.Stored.{StoredSegment}
 use Rattle.object_modules.specs.Text.{Run}
-use Rattle.object_modules.specs.Views.{owned_public_view}
+use Rattle.object_modules.specs.internal.Views.{owned_public_view}
 use Rattle.object_modules.specs.internal.Joining.{with_runs, fix_kept, fixes_below, fixes_past, run_end, runs_fixed}
 
 -- a module is valid, and its pieces end within segments

@@ -8,8 +8,8 @@ use Rattle.names.specs.declared.fault.Fault.{Fault}
 use Rattle.names.specs.declared.fault.Fault.TheVariants.{Unknown}
 use Rattle.names.specs.Environment.{Here, at_the_start}
 use Rattle.names.specs.BuiltIns.{binding_of}
-use Rattle.names.specs.Events.{Seen}
-use Rattle.names.specs.Binding.{bindings_of, first_fault}
+use Rattle.names.specs.internal.Events.{Seen}
+use Rattle.names.specs.internal.Binding.{bindings_of, first_fault}
 
 -- how far a text is, and what its uses of names were bound to
 pub record Walk : Type 0 where

@@ -8,9 +8,9 @@ use Rattle.names.specs.declared.entity.Binding.TheVariants.{Declared, BuiltInNam
 use Rattle.names.specs.declared.entity.BuiltIn.TheVariants.{Low}
 use Rattle.names.specs.declared.entity.Entity.TheVariants.{Object, Procedure, Label}
 use Rattle.names.specs.declared.fault.Fault.TheVariants.{Unknown, DeclaredTwice}
-use Rattle.names.specs.Binding.{IsBinding, first_fault}
+use Rattle.names.specs.internal.Binding.{IsBinding, first_fault}
 use Rattle.names.specs.BuiltIns.{built_in_of}
-use Rattle.names.specs.Events.{declares, events_of, in_turn, jumps_to, moves, nothing, see_item, uses_of}
+use Rattle.names.specs.internal.Events.{declares, events_of, in_turn, jumps_to, moves, nothing, see_item, uses_of}
 
 -- a place on a line, and a name there
 abbrev on_line : ℕ → Place

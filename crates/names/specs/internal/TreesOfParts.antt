@@ -8,8 +8,8 @@ use Rattle.trees.specs.declared.statement.IterativeDo.{IterativeDo, out-Iterativ
 use Rattle.trees.specs.declared.statement.Procedure.{Procedure, out-Procedure}
 use Rattle.trees.specs.Trees.{StatementKindTree, IfStatement, DoStatement, WhileStatement, IterateStatement, CaseStatement, DeclarationTree}
 use Rattle.names.specs.Environment.{Here}
-use Rattle.names.specs.Events.{Seen, in_turn, see_all, see_block, declares_parameter}
-use Rattle.trees.specs.Views.{expression_tree, iteration_tree, statement_tree, statement_trees, else_tree, block_declarations, block_statements, procedure_tree}
+use Rattle.names.specs.internal.Events.{Seen, in_turn, see_all, see_block, declares_parameter}
+use Rattle.trees.specs.internal.Views.{expression_tree, iteration_tree, statement_tree, statement_trees, else_tree, block_declarations, block_statements, procedure_tree}
 
 abbrev pub if_tree : IfThen → StatementKindTree
 if_tree branch =

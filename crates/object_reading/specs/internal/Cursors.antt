@@ -2,7 +2,7 @@
 use Rattle.std.specs.Prelude.{List, ◌++◌}
 use Rattle.object_modules.specs.declared.segment.Fix.{Fix}
 use Rattle.object_modules.specs.Before.{leading_fixes}
-use Rattle.object_modules.specs.Walking.{parts_from}
+use Rattle.object_modules.specs.internal.Walks.{parts_from}
 use Rattle.object_reading.specs.internal.Fixes.{fixes_in}
 use Rattle.object_reading.specs.declared.walks.cursor_fixes.FixCursor.{FixCursor}
 

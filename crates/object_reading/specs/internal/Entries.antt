@@ -9,7 +9,7 @@ use Rattle.object_modules.specs.Before.{leading_fixes}
 use Rattle.object_modules.specs.Parts.{Definition, Content, Part, body_of, part_bytes}
 use Rattle.object_modules.specs.Reading.{segment_of}
 use Rattle.object_modules.specs.Spelling.{FixedContent}
-use Rattle.object_modules.specs.Walking.{parts_from, contents_left}
+use Rattle.object_modules.specs.internal.Walks.{parts_from, contents_left}
 
 -- bytes that are parts of a file, one after another
 pub record AreParts (bytes : List ℕ) : Type 0 where

@@ -10,7 +10,7 @@ use Rattle.object_modules.specs.declared.segment.Target.TheVariants.{InSegment, 
 use Rattle.object_modules.specs.Before.{fixes_of, leading_fixes}
 use Rattle.object_modules.specs.Parts.{ExternalReferencesPart, RelocationPart}
 use Rattle.object_modules.specs.Reading.{Front, segment_of, fix_kind_of, references_in, words_in}
-use Rattle.object_modules.specs.Walking.{parts_from}
+use Rattle.object_modules.specs.internal.Walks.{parts_from}
 
 -- the fixes of the entries that are left of a fix record: with a target that is a segment, or with the external
 -- name that each entry has

@@ -4,7 +4,7 @@ ghost use Rattle.std.specs.Prelude.{◌≡◌, ◌+◌, ◌*◌};
 ghost use Rattle.std.specs.Option.{option_map};
 ghost use Rattle.object_modules.specs.Reading.{name_in_front, listed_name_in_front, definition_in_front, segment_of};
 ghost use Rattle.object_reading.specs.internal.Entries.{content_where, definition_at, is_content};
-ghost use Rattle.object_reading.specs.Views.{content_view};
+ghost use Rattle.object_reading.specs.internal.Views.{content_view};
 
 use crate::entries::content::Content;
 use byteorder::{ByteOrder, LittleEndian};

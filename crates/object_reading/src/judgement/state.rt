@@ -2,7 +2,7 @@
 
 ghost use Rattle.std.specs.Prelude.{◌≡◌, ◌≤◌, Ok, Err, length, OnOk};
 ghost use Rattle.failure.specs.Failure.{IfFault};
-ghost use Rattle.object_reading.specs.Views.{content_view};
+ghost use Rattle.object_reading.specs.internal.Views.{content_view};
 ghost use Rattle.object_reading.specs.internal.Order.{is_over};
 ghost use Rattle.object_reading.specs.internal.States.{beginning, state_view, extent_of, end_of, fits, with_content, header_taken, externals_taken, publics_taken, content_taken, fixes_taken, start_stated, end_taken, body_taken, record_taken, Tells};
 

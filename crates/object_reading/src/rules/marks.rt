@@ -6,7 +6,7 @@ ghost use Rattle.object_modules.specs.Module.{width_of};
 ghost use Rattle.object_modules.specs.Rules.{is_within};
 ghost use Rattle.object_reading.specs.internal.Entries.{content_at};
 ghost use Rattle.object_reading.specs.internal.Fixes.{AreFixEntries, fixes_in};
-ghost use Rattle.object_reading.specs.Views.{content_view};
+ghost use Rattle.object_reading.specs.internal.Views.{content_view};
 ghost use Rattle.object_reading.specs.internal.Marks.{is_marked, with_marks, marks_after, no_marks};
 ghost use Rattle.object_reading.specs.internal.Marks.{unmarked, marked_after};
 
@@ -23,7 +23,7 @@ pub struct MarkedContent<'a> {
 
 impl<'a> Model for MarkedContent<'a> {
     ghost use Rattle.std.specs.Prelude.{◌≤◌, length};
-    ghost use Rattle.object_reading.specs.Views.{content_view};
+    ghost use Rattle.object_reading.specs.internal.Views.{content_view};
     ghost use Rattle.object_reading.specs.internal.Marks.{Marked};
 
     ghost Value = { Marked };

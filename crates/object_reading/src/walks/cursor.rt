@@ -4,9 +4,9 @@ ghost use Rattle.std.specs.Prelude.{◌≡◌, ◌<◌, [], None, Some, length, 
 ghost use Rattle.std.specs.Option.{option_map};
 ghost use Rattle.omf80.specs.Records.{kind_of_type, record_fault, first_body, record_end};
 ghost use Rattle.object_modules.specs.Parts.{listed_name_bytes, definition_bytes};
-ghost use Rattle.object_modules.specs.Walking.{externals_left, publics_left, contents_left};
+ghost use Rattle.object_modules.specs.internal.Walks.{externals_left, publics_left, contents_left};
 ghost use Rattle.object_reading.specs.internal.Entries.{AreParts, AreEntries, body_where, publics_where, contents_after, is_external_names, is_publics};
-ghost use Rattle.object_reading.specs.Views.{content_view};
+ghost use Rattle.object_reading.specs.internal.Views.{content_view};
 
 use crate::entries::{Content, content_of, segment_of};
 use object_modules::Segment;

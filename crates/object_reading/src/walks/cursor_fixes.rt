@@ -2,7 +2,7 @@
 
 ghost use Rattle.std.specs.Prelude.{◌≡◌, ◌<◌, [], length, IfNone, IfSome};
 ghost use Rattle.object_modules.specs.Before.{leading_fixes};
-ghost use Rattle.object_modules.specs.Walking.{parts_from};
+ghost use Rattle.object_modules.specs.internal.Walks.{parts_from};
 ghost use Rattle.object_reading.specs.internal.Entries.{AreParts};
 ghost use Rattle.object_reading.specs.internal.Fixes.{AreFixEntries};
 ghost use Rattle.object_reading.specs.internal.Cursors.{fixes_left};

@@ -4,7 +4,7 @@ ghost use Rattle.std.specs.Prelude.{IfOk};
 ghost use Rattle.failure.specs.Failure.{IfFault};
 ghost use Rattle.object_modules.specs.Module.{ObjectModule as ObjectValue};
 ghost use Rattle.object_modules.specs.Spelling.{Spells, HasFirstFault};
-ghost use Rattle.object_modules.specs.Walking.{WalksOver};
+ghost use Rattle.object_modules.specs.internal.Walks.{WalksOver};
 
 use crate::judgement::judge;
 use crate::walks::walks::Walk;

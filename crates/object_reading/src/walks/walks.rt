@@ -2,9 +2,9 @@
 
 ghost use Rattle.std.specs.Prelude.{◌≡◌};
 ghost use Rattle.std.specs.Option.{option_map};
-ghost use Rattle.object_modules.specs.Walking.{WalksOver, HandsOut, HandsOutContent, length_by, alignment_by};
-ghost use Rattle.object_modules.specs.Views.{public_view};
-ghost use Rattle.object_reading.specs.Views.{content_view};
+ghost use Rattle.object_modules.specs.internal.Walks.{WalksOver, HandsOut, HandsOutContent, length_by, alignment_by};
+ghost use Rattle.object_modules.specs.internal.Views.{public_view};
+ghost use Rattle.object_reading.specs.internal.Views.{content_view};
 ghost use Rattle.object_reading.specs.internal.Judging.{IsJudged};
 
 use crate::entries::{Content, definition_in_front, fix_in_front, listed_name_in_front};
@@ -32,7 +32,8 @@ pub struct Walk<'a> {
 }
 
 impl<'a> Model for Walk<'a> {
-    ghost use Rattle.object_modules.specs.Walking.{Walking, externals_left, publics_left, contents_left};
+    ghost use Rattle.object_modules.specs.Walking.{Walking};
+    ghost use Rattle.object_modules.specs.internal.Walks.{externals_left, publics_left, contents_left};
     ghost use Rattle.object_modules.specs.Parts.{listed_name_bytes, definition_bytes};
     ghost use Rattle.object_reading.specs.internal.Cursors.{fixes_left};
     ghost use Rattle.object_reading.specs.internal.Entries.{AreParts, AreEntries};

@@ -6,7 +6,7 @@ use Rattle.object_modules.specs.Module.{Public}
 use Rattle.object_modules.specs.Parts.{listed_name_bytes, definition_bytes}
 use Rattle.object_modules.specs.Before.{same_segment}
 use Rattle.object_modules.specs.Text.{definition_of}
-use Rattle.object_modules.specs.Views.{owned_public_view}
+use Rattle.object_modules.specs.internal.Views.{owned_public_view}
 
 abbrev pub name_entry : (name : List ℕ) → Option (List ℕ)
 name_entry name = Some (listed_name_bytes name)

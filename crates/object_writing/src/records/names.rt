@@ -5,7 +5,7 @@ ghost use Rattle.std.specs.Io.KnownBytes.{Appends};
 ghost use Rattle.object_modules.specs.Before.{same_segment};
 ghost use Rattle.object_modules.specs.Parts.{part_bytes};
 ghost use Rattle.object_modules.specs.Text.{external_parts, public_parts};
-ghost use Rattle.object_modules.specs.Views.{owned_public_view};
+ghost use Rattle.object_modules.specs.internal.Views.{owned_public_view};
 ghost use Rattle.failure.specs.Writing.{AppendsBeginning};
 ghost use Rattle.object_writing.specs.internal.Groups.{flushed_by, records_of, with_item};
 ghost use Rattle.object_writing.specs.internal.Named.{name_entry, owned_entry};

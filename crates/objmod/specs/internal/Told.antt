@@ -2,7 +2,7 @@
 use Rattle.std.specs.Prelude.{◌≡◌, map}
 use Rattle.object_modules.specs.declared.object.ModuleParts.{ModuleParts}
 use Rattle.object_modules.specs.declared.segment.Segment.TheVariants.{Code, Data}
-use Rattle.object_modules.specs.Views.{owned_public_view}
+use Rattle.object_modules.specs.internal.Views.{owned_public_view}
 use Rattle.object_modules.specs.Walking.{Walking}
 use Rattle.objmod.specs.internal.Keeping.{put_together}
 

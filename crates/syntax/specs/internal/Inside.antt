@@ -6,7 +6,7 @@ use Rattle.trees.specs.declared.statement.Statement.{Statement}
 use Rattle.grammar.specs.Forms.{expression_level}
 use Rattle.grammar.specs.Symbols.{Symbol, NameSymbol, UnknownSymbol}
 use Rattle.trees.specs.Trees.{ExpressionTree, StatementTree, StatementKindTree, StatementTrees, MoreStatements, DeclarationTrees, MoreDeclarations}
-use Rattle.trees.specs.Views.{statement_tree, declaration_tree, block_declarations, block_statements}
+use Rattle.trees.specs.internal.Views.{statement_tree, declaration_tree, block_declarations, block_statements}
 use Rattle.failure.specs.declared.Failure.{Failure}
 use Rattle.syntax.specs.declared.fault.Fault.{Fault}
 use Rattle.syntax.specs.declared.statements.Beginning.{Beginning}

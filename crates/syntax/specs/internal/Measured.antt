@@ -1,7 +1,7 @@
 -- The trees of expressions, references and arguments whose levels are known.
 use Rattle.std.specs.Prelude.{◌≡◌, List, map, Result, IfOk}
 use Rattle.trees.specs.Trees.{ExpressionTree, ReferenceTree, ArgumentTrees}
-use Rattle.trees.specs.Views.{expression_tree, reference_tree, argument_trees}
+use Rattle.trees.specs.internal.Views.{expression_tree, reference_tree, argument_trees}
 use Rattle.syntax.specs.declared.measured.Measured.{Measured}
 use Rattle.syntax.specs.declared.measured.MeasuredArguments.{MeasuredArguments}
 use Rattle.syntax.specs.declared.measured.MeasuredReference.{MeasuredReference}

@@ -5,7 +5,7 @@ use Rattle.trees.specs.declared.expression.Expression.{Expression}
 use Rattle.trees.specs.declared.expression.Reference.{Reference, out-Reference}
 use Rattle.trees.specs.declared.expression.Selector.{Selector}
 use Rattle.trees.specs.Trees.{ExpressionTree, ReferenceLeaf, ReferenceTo, MemberTree, NoMember, MemberOf, ArgumentTrees, NoArguments, MoreArguments}
-use Rattle.trees.specs.Views.{argument_trees}
+use Rattle.trees.specs.internal.Views.{argument_trees}
 use Rattle.typed_trees.specs.Views.{reference_view}
 use Rattle.typed_expressions.specs.declared.known.Known.{Known as CodeKnown}
 use Rattle.failure.specs.declared.Failure.{Failure}

@@ -2,7 +2,7 @@
 use Rattle.types.proofs.Prelude.{◌≡◌, ℕ, ◌+◌, List, [], ◌++◌, length, Ok, filter_map, refl, sym, ap, ◌∙◌, subst, AllZip, Gives, gives_ok, gives_after, in_turn, then_more, Fits, Holds, Keeps, Same, objects_are, object_names, procedure_names, HeadingTree, ItemTree, ModuleTree, StatementTree, StatementTrees, DeclarationTrees, Here, Checked, Block, Progress, TypedList, TypedModule, TypedProcedure, TypedStatement, TypedStatements, labels_before, list_of, with_here, parameter_objects, alone, at_the_beginning, cases, declarations, labelled, module_block, module_with, statements, typing_of, declare_elements, Declares, Entry, HasHeading, IsDeclared, declared_object, declared_procedure, entries_in, entries_in_declaration, entries_in_else, entries_in_kind, entries_in_statement, entries_in_statements, entries_of, declare_labels-fit}
 use Rattle.trees.specs.Trees as trees
 use Rattle.trees.specs.Trees.{DeclarationTree, DeclareTree, ElseTree, LabelledStatement, MoreDeclarations, NoDeclarations, ProcedureTree, StatementKindTree}
-use Rattle.names.specs.{Environment.{into_block, into_list, out_of_block, out_of_list}, Events.{labels_of}}
+use Rattle.names.specs.{Environment.{into_block, into_list, out_of_block, out_of_list}, DeclaredNames.{labels_of}}
 use Rattle.typed_trees.specs.TypedTrees.{TypedElse, TypedObject}
 use Rattle.typing.specs.{Modules.{entered, inner_block}, Procedures.{own_block}, References.{Known}, internal.Expressions.{arguments}, internal.ProcedureChecks.{check_body}, internal.StatementChecks.{without_label}, internal.Typing.{declaration, else_part, kind}}
 use Rattle.typing.proofs.DeclarationsBack.{declare_elements-walk, open_procedure-opens}

@@ -5,7 +5,7 @@ use Rattle.trees.specs.declared.declaration.Member.{Member}
 use Rattle.trees.specs.declared.identifier.Identifier.{Identifier}
 use Rattle.trees.specs.declared.identifier.Place.{Place}
 use Rattle.trees.specs.Trees.{ItemTree}
-use Rattle.names.specs.Uses.{declared_by}
+use Rattle.names.specs.DeclaredNames.{declared_by}
 use Rattle.typing.specs.declared.fault.Cause.TheVariants.{NoBase, ImpliedForGroup, ImpliedWithoutValues, TooLarge}
 use Rattle.typed_trees.specs.declared.parts.GlobalItem.TheVariants.{GlobalObject}
 use Rattle.typed_trees.specs.declared.limits.TheConstants.{FRAME_LIMIT, OBJECT_LIMIT}

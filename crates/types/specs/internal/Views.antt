@@ -1,5 +1,5 @@
 -- What the parts of the checker stand for.
-use Rattle.trees.specs.Views.{heading_tree}
+use Rattle.trees.specs.internal.Views.{heading_tree}
 use Rattle.typed_trees.specs.Views.{home_view, type_view}
 use Rattle.types.specs.declared.blocks.Block.{Block as CodeBlock}
 use Rattle.types.specs.declared.blocks.Owner.{Owner as CodeOwner}

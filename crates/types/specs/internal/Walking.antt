@@ -4,9 +4,9 @@ use Rattle.trees.specs.declared.declaration.ScalarType.{ScalarType}
 use Rattle.trees.specs.declared.identifier.Identifier.{Identifier}
 use Rattle.trees.specs.declared.statement.Procedure.{Procedure, out-Procedure}
 use Rattle.trees.specs.Trees.{ArgumentTrees, HeadingTree, StatementTree, StatementTrees, DeclarationTrees}
-use Rattle.trees.specs.Views.{heading_tree, block_declarations, block_statements}
+use Rattle.trees.specs.internal.Views.{heading_tree, block_declarations, block_statements}
 use Rattle.names.specs.Environment.{Here, is_among, into_body, with_procedure, is_declared_again, into_list, out_of_list, with_label, with_parameter, is_label_again, is_parameter_again}
-use Rattle.names.specs.Events.{labels_of}
+use Rattle.names.specs.DeclaredNames.{labels_of}
 use Rattle.typed_trees.specs.declared.limits.TheConstants.{PARAMETER_LIMIT}
 use Rattle.typed_trees.specs.TypedTrees.{TypedTarget, TypedStatement, TypedList, TypedObject}
 use Rattle.typed_trees.specs.Views.{list_view}

@@ -2,7 +2,7 @@
 -- and where it is refused for one that is none of a member, that is the first fault.
 use Rattle.typing.proofs.Prelude.{◌≡◌, ℕ, ◌+◌, List, [], ◌∷◌, ◌++◌, Option, None, Some, Ok, Err, length, take, drop, refl, sym, ap, subst, ◌∙◌, append_assoc, inl, inr, ◌⊎◌, Contains, not, ◌||◌, nat_le, flat_map, take-append-drop, Identifier, ItemTree, ElementTree, LiterallyElement, ItemElement, HeadingTree, StatementTree, LabelledStatement, StatementKindTree, ElseTree, StatementTrees, DeclarationTree, DeclareTree, ProcedureTree, DeclarationTrees, NoDeclarations, MoreDeclarations, ModuleTree, Here, at_the_start, into_block, out_of_block, into_body, out_of_body, into_list, out_of_list, with_object, with_procedure, with_definition, with_parameter, with_label, is_declared_again, is_parameter_again, is_label_again, Event, Seen, in_turn, see_all, uses_at, see_item, see_element, see_kind, see_statements, see_alone, see_else, see_cases, see_declaration, see_declarations, in_list, moves, declares_object, declares_procedure, declares_label, labels_of, events_of, declared_by, names_in_item, IsFirstFault, TypedStatements, TypedModule, OBJECT_LIMIT, PARAMETER_LIMIT, NestedProcedure, ExternalContents, TooManyParameters, MisplacedLabel, TooLarge, Checked, place_of, Block, Progress, is_external, is_reentrant, declares_its_parameter, declare_names, declare_item, declare_element, declare_elements, size_of_item, place_of_item, with_here, declare_labels, list_of, declare_parameters, no_more_parameters, open_procedure, own_block, inner_block, entered, kind, alone, else_part, cases, statements, declaration, declarations, module_block, at_the_beginning, typing_of, Fault, ◌>>=◌, members_in_kind, members_in_statement, members_in_else, members_in_statements, members_in_element, members_in_type, members_in_declaration, members_in_declarations, members_in_module, IsFaultOfNames, IsOfNames, IsRefusedBeside, NamesAreBound, as_refusal}
 use Rattle.trees.specs.Trees as trees
-use Rattle.names.specs.Events.{declares_parameter}
+use Rattle.names.specs.internal.Events.{declares_parameter}
 use Rattle.names.specs.declared.fault.Fault as name_fault
 use Rattle.typing.proofs.Names.Meeting.{Meets, Never, meets_ok, meets_fault, meets_then, after_other, before_other, other_required}
 use Rattle.typing.proofs.Names.ChecksWithoutNames.{not_of_names, objects-other, visibility-other, reentrant-other, parameters-other, body-other}

@@ -6,7 +6,7 @@ use Rattle.names.specs.BuiltIns.{built_in_of}
 use Rattle.typed_trees.specs.TypedTrees.{TypedModule}
 use Rattle.typing.specs.internal.Checks.{Checked, ◌>>=◌}
 use Rattle.typing.specs.internal.Typing.{typing_of}
-use Rattle.typing.specs.Untyped.{untyped_bodies, plain_bodies}
+use Rattle.typing.specs.internal.Untyped.{untyped_bodies, plain_bodies}
 use Rattle.typing.specs.internal.Samples.{on_line, name_on, number_on, string_on, a_number, plain, arguments_of, at_subscript, value_of, unlabelled, assigns, statements_of, module_of, doing}
 use Rattle.typing.specs.internal.Measures.{structures, two_procedures, even_module}
 

@@ -12,7 +12,7 @@ use Rattle.names.specs.declared.entity.Binding.{Binding}
 use Rattle.names.specs.declared.entity.Binding.TheVariants.{Declared}
 use Rattle.names.specs.declared.entity.Entity.TheVariants.{Object}
 use Rattle.names.specs.Environment.{Here, with_object, with_definition, is_declared_again}
-use Rattle.names.specs.Uses.{declared_by}
+use Rattle.names.specs.DeclaredNames.{declared_by}
 use Rattle.typing.specs.declared.fault.Cause.TheVariants.{DeclaredTwice, NoVariable, ParameterNotScalar, NoBase, MisplacedLinkage, MisplacedAt, MisplacedValues, BasedParameter, ImpliedForGroup, ExternalContents, ZeroDimension, ImpliedWithoutValues, TooLarge}
 use Rattle.typed_trees.specs.declared.limits.TheConstants.{OBJECT_LIMIT, FRAME_LIMIT}
 use Rattle.typed_trees.specs.declared.parts.AtAddress.{AtAddress}

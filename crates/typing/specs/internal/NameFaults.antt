@@ -3,8 +3,8 @@ use Rattle.std.specs.Prelude.{◌≡◌, ◌⊎◌, Contains, Err}
 use Rattle.trees.specs.Trees.{ModuleTree}
 use Rattle.names.specs.declared.fault.Fault as name_fault
 use Rattle.names.specs.declared.fault.Fault.TheVariants as name_faults
-use Rattle.names.specs.Events.{events_of}
-use Rattle.names.specs.Binding.{IsBinding, IsFirstFault, bindings_of}
+use Rattle.names.specs.internal.Events.{events_of}
+use Rattle.names.specs.internal.Binding.{IsBinding, IsFirstFault, bindings_of}
 use Rattle.typing.specs.declared.fault.Cause.{Cause}
 use Rattle.typing.specs.declared.fault.Cause.TheVariants.{UnknownName, DeclaredTwice}
 use Rattle.typing.specs.declared.fault.Fault.{Fault}

@@ -3,7 +3,7 @@ use Rattle.std.specs.Prelude.{◌≡◌, Option, None, Some, Result, Ok, Err}
 use Rattle.failure.specs.declared.Failure.{Failure}
 use Rattle.failure.specs.declared.Failure.TheVariants as failures
 use Rattle.names.specs.declared.fault.Fault.{Fault as NameFault}
-use Rattle.names.specs.Faults.{place_of}
+use Rattle.names.specs.internal.Faults.{place_of}
 use Rattle.typing.specs.declared.fault.Cause.TheVariants.{DeclaredTwice}
 use Rattle.typing.specs.declared.fault.Fault.{Fault}
 use Rattle.typing.specs.internal.Checks.{Checked, ◌>>=◌}

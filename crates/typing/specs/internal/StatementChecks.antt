@@ -11,7 +11,7 @@ use Rattle.names.specs.declared.entity.BuiltIn.TheVariants.{Move}
 use Rattle.names.specs.declared.entity.Entity.TheVariants.{Object, Procedure, Label}
 use Rattle.names.specs.Environment.{Here, into_list, out_of_list, with_label, is_label_again}
 use Rattle.names.specs.BuiltIns.{jump_of}
-use Rattle.names.specs.Events.{labels_of}
+use Rattle.names.specs.DeclaredNames.{labels_of}
 use Rattle.typing.specs.declared.fault.Cause.TheVariants.{DeclaredTwice, ArgumentCount, CallOfTyped, CallOfNoProcedure, NoVariable, NoCounter, ReturnMismatch, ReturnOutside, MisplacedLabel, UnknownLabel}
 use Rattle.typed_trees.specs.TypedTrees.{TypedExpression, TypedArguments, NoArguments as NoTyped, MoreArguments as MoreTyped, TypedIteration, TypedStatement, CallStatement as TypedCall, MoveStatement, ReturnStatement as TypedReturn, GotoStatement as TypedGoto, TypedStatements, TypedList, ListOf, Constants}
 use Rattle.typing.specs.internal.Checks.{Checked, ◌>>=◌, refuse, require, found}

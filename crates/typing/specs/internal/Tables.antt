@@ -4,7 +4,7 @@ use Rattle.names.specs.declared.entity.Entity.TheVariants.{Object, Procedure}
 use Rattle.names.specs.Environment.{entity_of}
 use Rattle.typed_trees.specs.TypedTrees.{TypedObject, TypedProcedure, TypedModule, Constants}
 use Rattle.typing.specs.References.{Known, members_of}
-use Rattle.typing.specs.Untyped.{object_name, procedure_name, members_of_object}
+use Rattle.typing.specs.internal.Untyped.{object_name, procedure_name, members_of_object}
 
 -- objects that are known at a place are those of the tables at the end of the module
 abbrev pub AgreesOnObjects : TypedModule → Known → Type 0

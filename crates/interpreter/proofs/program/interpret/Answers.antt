@@ -1,5 +1,5 @@
 use Rattle.interpreter.proofs.Prelude.{◌≡◌, ◌∙◌, Some, ap, map, option_map, sym, Typed, module_view, placement_view, found_from, found_view, begins_itself, if_ok_then}
-use Rattle.declared.specs.Access.{modules_in}
+use Rattle.join.specs.Views.{modules_in}
 use Rattle.interpreter.proofs.Runs.{events_begun, either, fails_as_meant, if_err_then, kept_reached, kept_stopped, stops_as_meant, on_err, budget_spent, started, tables}
 use Rattle.interpreter.proofs.program.interpret.Goals as goal
 

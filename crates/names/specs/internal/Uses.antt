@@ -56,11 +56,6 @@ names_in_subject (SingleSubject name None) = []
 names_in_subject (SingleSubject name (Some base)) = base ∷ []
 names_in_subject (GroupSubject names) = []
 
--- the names that an item declares
-abbrev pub declared_by : SubjectTree → List Identifier
-declared_by (SingleSubject name base) = name ∷ []
-declared_by (GroupSubject names) = names
-
 -- an item: BASED, AT, and the list of INITIAL or DATA
 abbrev pub names_in_item : ItemTree → List Identifier
 names_in_item item =

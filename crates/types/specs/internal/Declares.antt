@@ -12,7 +12,7 @@ use Rattle.trees.specs.declared.identifier.Identifier.{Identifier}
 use Rattle.trees.specs.declared.identifier.Number.{Number}
 use Rattle.trees.specs.Trees as trees
 use Rattle.trees.specs.Trees.{ItemTypeTree, ScalarItem, StructureItem, ItemTree, ElementTree, LiterallyElement, ItemElement, HeadingTree, StatementTree, LabelledStatement, StatementKindTree, ElseTree, StatementTrees, DeclarationTree, DeclareTree, ProcedureTree, DeclarationTrees, NoDeclarations, MoreDeclarations, ModuleTree}
-use Rattle.names.specs.Uses.{declared_by}
+use Rattle.names.specs.DeclaredNames.{declared_by}
 use Rattle.typed_trees.specs.declared.parts.TypedMember.{TypedMember}
 use Rattle.typed_trees.specs.TypedTrees.{ObjectType, ScalarObject, StructureObject, Home, InData, InConstants, Placed, BasedOn, Elsewhere, Nowhere, InFrame, TypedObject, TypedProcedure, TypedModule}
 use Rattle.typing.specs.Blocks.{is_external_linkage, is_public_linkage}

@@ -1,25 +1,20 @@
 -- The results of reads and writes of memory, by the bytes that the modules of a program declare.
-use Rattle.std.specs.Prelude.{ℕ, ◌+◌, ◌*◌, ◌/◌, ◌%◌, Bool, List, map, slice_set, Result, Ok, Err, if◌then◌else◌}
+use Rattle.std.specs.Prelude.{ℕ, ◌+◌, ◌*◌, ◌/◌, ◌%◌, Bool, List, slice_set, Result, Ok, Err, if◌then◌else◌}
 use Rattle.mem80.specs.declared.memory.TheConstants.{MEMORY_SIZE}
 use Rattle.mem80.specs.Memory.{byte_at}
 use Rattle.trees.specs.declared.declaration.ScalarType.{ScalarType}
 use Rattle.trees.specs.declared.declaration.ScalarType.TheVariants.{Byte, Address}
 use Rattle.typed_trees.specs.TypedTrees.{TypedModule}
-use Rattle.typed_trees.specs.Views.{module_view}
 use Rattle.layout.specs.Placement.{Placement, pieces_of}
 use Rattle.layout.specs.Placement as placements
 use Rattle.join.specs.declared.joined.Joined.{Joined}
-use Rattle.join.specs.Views.{modules_of}
+use Rattle.join.specs.Views.{modules_in}
 use Rattle.placing.specs.declared.placement.Placement.{Placement as CodePlacement}
 use Rattle.placing.specs.declared.table.ByteKinds.{ByteKinds}
-use Rattle.placing.specs.Tables.{IsTableOf}
+use Rattle.placing.specs.internal.Tables.{IsTableOf}
 use Rattle.placing.specs.Views.{placement_view}
 use Rattle.meaning.specs.declared.reason.Reason.{Reason}
 use Rattle.meaning.specs.declared.reason.Reason.TheVariants.{Byte as UndeclaredByte, Constant}
-
--- the modules of a joined program
-abbrev pub modules_in : Joined → List TypedModule
-modules_in joined = map module_view (modules_of joined)
 
 -- the kinds of bytes are those of a program at a placement
 abbrev pub AreKindsOf : Joined → CodePlacement → ByteKinds → Type 0

@@ -11,7 +11,7 @@ use Rattle.layout.specs.Joined.{InProgram}
 use Rattle.layout.specs.Placement.{IsDeclared}
 use Rattle.layout.specs.StartingMemory.{address_in, meant_in, values_in}
 use Rattle.meaning.specs.Outcomes.{Program}
-use Rattle.meaning_laws.specs.Meant.{HasAddress, IsPlaced}
+use Rattle.meaning_laws.specs.internal.Meant.{HasAddress, IsPlaced}
 
 -- an object that is PUBLIC has a place: in the data segment, among the constants, or where AT puts it
 abbrev pub LiesIfPublic : TypedObject → Type 0

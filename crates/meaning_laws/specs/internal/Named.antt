@@ -6,7 +6,7 @@ use Rattle.std.specs.List.{enumerate_from}
 use Rattle.typed_trees.specs.TypedTrees.{TypedExpression, NumberNode, ValueNode, LocationNode, ListNode, ConversionNode, AssignmentNode, UnaryNode, BinaryNode, CallNode, FunctionNode, ShiftNode, InputNode, TypedReference, PartOf, Subscript, NoSubscript, At, TypedTarget, StoredIn, SentTo, TypedArguments, NoArguments, MoreArguments, TypedIteration, TypedStatement, LabelStatement, NullStatement, AssignmentStatement, CallStatement, MoveStatement, ReturnStatement, HaltStatement, GotoStatement, IfStatement, DoStatement, WhileStatement, IterateStatement, CaseStatement, TypedElse, NoElse, ElseStatement, TypedStatements, NoStatements, MoreStatements, TypedList, ListOf, TypedProcedure, TypedModule}
 use Rattle.typed_trees.specs.WellTyped.{Within, WithinProcedure, WithinMain}
 use Rattle.meaning.specs.Access.{Surroundings}
-use Rattle.meaning_laws.specs.Meant.{CallIsMeant, ListIsPlaced, ReferenceIsMeant, VariableIsMeant}
+use Rattle.meaning_laws.specs.internal.Meant.{CallIsMeant, ListIsPlaced, ReferenceIsMeant, VariableIsMeant}
 
 abbrev mutual
   -- in an expression of a part of a module

@@ -5,7 +5,7 @@ use Rattle.trees.specs.Trees.{ModuleTree}
 use Rattle.names.specs.declared.entity.Binding.{Binding}
 use Rattle.names.specs.declared.fault.Fault.{Fault}
 use Rattle.names.specs.declared.fault.Fault.TheVariants.{Unknown, DeclaredTwice}
-use Rattle.names.specs.Events.{Event, Use, Declaration, events_of}
+use Rattle.names.specs.internal.Events.{Event, Use, Declaration, events_of}
 
 -- the bindings of the uses among events, in the order of the text
 abbrev pub bindings_of : List Event → List Binding

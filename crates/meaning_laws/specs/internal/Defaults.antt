@@ -15,9 +15,9 @@ use Rattle.layout.specs.StartingMemory.{Contents, Covers, IsAmong, StartsAs, con
 use Rattle.meaning.specs.Access.{Surroundings, place_of}
 use Rattle.meaning.specs.Meaning.{Later, IsMeantBelow, done, done_list, frame_of, later_by, located, parameters_set, rest_from, stored, value, values}
 use Rattle.meaning.specs.Outcomes.{Program, State}
-use Rattle.meaning_laws.specs.Meant.{GivesBytes, GivesInMemory, GivesSoMany, HasBytes, HasMain, IsCallee, IsThere, JumpTakesOne, Leaves, LeavesBytes, LeavesMain, LeavesProcedure, ParametersAreThere}
-use Rattle.meaning_laws.specs.Named.{NamesAreMeant}
-use Rattle.meaning_laws.specs.Places.{LocationsLie, ObjectsLie}
+use Rattle.meaning_laws.specs.internal.Meant.{GivesBytes, GivesInMemory, GivesSoMany, HasBytes, HasMain, IsCallee, IsThere, JumpTakesOne, Leaves, LeavesBytes, LeavesMain, LeavesProcedure, ParametersAreThere}
+use Rattle.meaning_laws.specs.internal.Named.{NamesAreMeant}
+use Rattle.meaning_laws.specs.internal.Places.{LocationsLie, ObjectsLie}
 
 -- statements that begin with a label
 abbrev pub BeginsWith : (label : ℕ) → TypedStatements → Type 0

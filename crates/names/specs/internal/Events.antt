@@ -6,7 +6,8 @@ use Rattle.trees.specs.Trees.{ElementTree, LiterallyElement, ItemElement, Statem
 use Rattle.names.specs.declared.entity.Binding.{Binding}
 use Rattle.names.specs.Environment.{Here, at_the_start, into_block, out_of_block, into_body, out_of_body, into_list, out_of_list, with_object, with_procedure, with_definition, with_parameter, with_label, is_declared_again, is_parameter_again, is_label_again}
 use Rattle.names.specs.BuiltIns.{binding_of, jump_of}
-use Rattle.names.specs.Uses.{names_in_expression, names_in_reference, names_in_arguments, names_in_optional, names_in_iteration, names_in_item, declared_by}
+use Rattle.names.specs.internal.Uses.{names_in_expression, names_in_reference, names_in_arguments, names_in_optional, names_in_iteration, names_in_item}
+use Rattle.names.specs.DeclaredNames.{declared_by, labels_of}
 
 -- one thing that a text does with a name
 pub data Event : Type 0 where
@@ -87,11 +88,6 @@ see_item declared used here = record {
 abbrev pub see_element : ElementTree → Here → Seen
 see_element (LiterallyElement name text) = declares_definition name
 see_element (ItemElement item) = see_item (declared_by item.subject) (names_in_item item)
-
--- the labels of the statements of a list
-abbrev pub labels_of : StatementTrees → List Identifier
-labels_of NoStatements = []
-labels_of (MoreStatements (LabelledStatement labels kind) others) = labels ++ labels_of others
 
 -- the inside of a simple DO, of the body of a procedure, of a list of statements
 abbrev pub in_block : (Here → Seen) → Here → Seen
