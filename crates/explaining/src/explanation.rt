@@ -89,16 +89,18 @@ fn explain_fault(page: &mut Page, seen: &Seen, told: Told) {
 // past its input.
 fn meaning_of_end(status: u8, until_dry: bool) -> Option<&'static str> {
     match status {
-        3 if until_dry => {
-            Some("A port was to be read past its input, or the budget of --limit was used up")
-        }
+        3 if until_dry => Some(
+            "A port was to be read past its input, or the budget of --limit was used up. See plm explain DRY and plm explain LIMIT",
+        ),
         3 => Some(
-            "The budget of --limit was used up: mostly a loop that never ends, as a wait for input",
+            "The budget of --limit was used up: mostly a loop that never ends, as a wait for input. See plm explain LIMIT",
         ),
         4 => Some(
-            "The machine met what is no instruction, or a port failed: try plm interpret, which stops where the source goes outside",
+            "The machine met what is no instruction, or a port failed: try plm interpret, which stops where the source goes outside. See plm explain ILLEGAL and plm explain PORT",
         ),
-        5 => Some("The program did what the language does not define, right after its last event"),
+        5 => Some(
+            "The program did what the language does not define, right after its last event. See plm explain OUTSIDE",
+        ),
         _ => None,
     }
 }
@@ -134,10 +136,7 @@ pub(crate) fn explanation(
         Some(told) if status == 1 || status == 2 => explain_fault(&mut page, &seen, told),
         _ => {
             if let Some(meaning) = meaning_of_end(status, words.contains(&"--until-dry")) {
-                page.sentence(&[
-                    Piece::Text(meaning),
-                    Piece::Text(". See docs/faults.md, \"How a run ends\""),
-                ]);
+                page.sentence(&[Piece::Text(meaning)]);
             }
         }
     }

@@ -272,9 +272,20 @@ fn explain_typing(page: &mut Page, refused: &Refused, fault: &typing::Fault) {
     refused.add_expansion(page);
 }
 
-// What is said of a byte that begins no word.
-fn hint_of_byte(byte: u8) -> Option<&'static str> {
+// Whether a place of a text is the beginning of a line.
+fn begins_line(text: &[u8], place: usize) -> bool {
+    match place.checked_sub(1) {
+        Some(before) => matches!(text.get(before), Some(b'\n')),
+        None => true,
+    }
+}
+
+// What is said of a byte that begins no word, by whether it begins a line.
+fn hint_of_byte(byte: u8, begins_line: bool) -> Option<&'static str> {
     match byte {
+        b'$' if !begins_line => Some(
+            "A control line begins with its $: put it at the beginning of a line, where plm convert takes it out",
+        ),
         b'$' => Some(
             "Control lines are left out: plm convert takes them out, and puts in the file of $INCLUDE; of a listing, add --listing",
         ),
@@ -298,7 +309,7 @@ fn explain_spelling(page: &mut Page, refused: &Refused) {
     if refused.told.number == "C1"
         && let Some(place) = refused.place
         && let Some(byte) = refused.text.get(place.start as usize)
-        && let Some(hint) = hint_of_byte(*byte)
+        && let Some(hint) = hint_of_byte(*byte, begins_line(refused.text, place.start as usize))
     {
         page.sentence(&[Piece::Text(hint)]);
     }

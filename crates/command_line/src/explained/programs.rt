@@ -1,7 +1,7 @@
 //! What is printed of the numbers of faults of the modules of a program together, of their places, and of files and options; and of the ends of runs. `tools/faults --write` makes it of docs/faults.md.
 
 /// The pages, with form feeds between them. Each begins with its number, on a line of its own.
-pub const PROGRAMS: [u8; 11651] = *b"\
+pub const PROGRAMS: [u8; 10786] = *b"\
 J1
 
 An EXTERNAL name that no module has as PUBLIC, used or not. \"Where\" is the name.
@@ -272,10 +272,6 @@ Line    Meaning                       Usually
 
 With `--where` a line after it says in which line of the source that was
 (`docs/commands.md`).
-
-Only `plm interpret` prints OUTSIDE. `plm run` does not notice, and goes on with
-whatever is in memory, so a program that behaves oddly is best tried with
-`plm interpret`.
 \x0cLIMIT
 
 Line     Meaning                Usually
@@ -286,10 +282,6 @@ Line     Meaning                Usually
 
 With `--where` a line after it says in which line of the source that was
 (`docs/commands.md`).
-
-Only `plm interpret` prints OUTSIDE. `plm run` does not notice, and goes on with
-whatever is in memory, so a program that behaves oddly is best tried with
-`plm interpret`.
 \x0cOUTSIDE
 
 Line                Meaning                            Usually
@@ -321,10 +313,6 @@ Line       Meaning                           Usually
 
 With `--where` a line after it says in which line of the source that was
 (`docs/commands.md`).
-
-Only `plm interpret` prints OUTSIDE. `plm run` does not notice, and goes on with
-whatever is in memory, so a program that behaves oddly is best tried with
-`plm interpret`.
 \x0cPORT
 
 Line    Meaning                   Usually
@@ -333,10 +321,6 @@ Line    Meaning                   Usually
 
 With `--where` a line after it says in which line of the source that was
 (`docs/commands.md`).
-
-Only `plm interpret` prints OUTSIDE. `plm run` does not notice, and goes on with
-whatever is in memory, so a program that behaves oddly is best tried with
-`plm interpret`.
 \x0cDRY
 
 Line   Meaning                                           Usually
@@ -346,8 +330,4 @@ Line   Meaning                                           Usually
 
 With `--where` a line after it says in which line of the source that was
 (`docs/commands.md`).
-
-Only `plm interpret` prints OUTSIDE. `plm run` does not notice, and goes on with
-whatever is in memory, so a program that behaves oddly is best tried with
-`plm interpret`.
 ";
