@@ -5,7 +5,7 @@ use Rattle.typed_laws.specs.internal.Limits.{ChargesFit}
 use Rattle.typed_laws.proofs.Charges.{derived_charges_fit}
 use Rattle.meaning_laws.specs.{internal.Defaults.{TakesNoDefault}, internal.Meant.{IsWhole}, internal.Places.{IsPlaceable}, internal.Publics.{HasTree}}
 use Rattle.meaning_laws.proofs.{Defaults.{takes_no_default}, Publics.{all_placeable}}
-use Rattle.built_laws.specs.BuiltPrograms.{program_of}
+use Rattle.built_laws.specs.internal.BuiltPrograms.{program_of}
 
 -- A program that is built is joined of soundly typed modules and lies lawfully, as the laws of `meaning_laws`
 -- ask.

@@ -1,5 +1,4 @@
 pub use Rattle.tool.specs.Headline
 pub use Rattle.stack_need.specs.StackNeed
 pub mod NeededRoom
-pub mod BuiltPrograms
 pub mod internal
