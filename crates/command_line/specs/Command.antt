@@ -34,7 +34,7 @@ flag_rule name = record (new_rule name) { long = Some name; action = Some SetTru
 abbrev pub out_rule : Rule
 out_rule = record (option_rule (codes "out")) { required = true }
 
--- the files, of which one at least has to be there
+-- the files: at least one
 abbrev pub files_rule : Rule
 files_rule = record (new_rule (codes "FILES")) { required = true; action = Some Append; value_names = 1 }
 

@@ -30,7 +30,7 @@ abbrev pub ◌>>=◌ : {A B : Type 0} → Result A Text → (A → Result B Text
 (Ok value) >>= next = next value
 (Err text) >>= next = Err text
 
--- the value that was found in a text, which is refused where there is none
+-- the value that was found in a text; the text is refused if no value was found
 abbrev pub found_in : {A : Type 0} → Text → Option A → Read A
 found_in text (Some value) = Ok value
 found_in text None = Err text
@@ -84,7 +84,7 @@ groups_in written text = all_groups written (slice_split (λ c. c == 47) text)
 abbrev pub input_bytes : Text → Option (List InputByte)
 input_bytes text = groups_in group_bytes text
 
--- the bytes of an input, of which there are none where it was left out
+-- the bytes of an input; no bytes if it was left out
 abbrev pub input_read : Option Text → Read (List InputByte)
 input_read None = Ok []
 input_read (Some text) = found_in text (input_bytes text)
@@ -124,7 +124,7 @@ memory_group _ = None
 abbrev pub memory_bytes : Text → Option (List MemoryByte)
 memory_bytes text = groups_in memory_group text
 
--- the same, of which there are none where the text was left out
+-- the same; no bytes if the text was left out
 abbrev pub memory_read : Option Text → Read (List MemoryByte)
 memory_read None = Ok []
 memory_read (Some text) = found_in text (memory_bytes text)

@@ -130,7 +130,7 @@ fn link<'a>(alloc: Global) -> Result<Command<'a>, AllocError>
     described(alloc, arguments::LINK)
 }
 
-// The command that tells where an object lies or, with its flag, how much of the stack sources need.
+// The command that prints where an object lies or, with its flag, how much of the stack sources need.
 fn locate<'a>(alloc: Global) -> Result<Command<'a>, AllocError>
     ensures { Builds (locate_app (codes "locate")) result }
 {

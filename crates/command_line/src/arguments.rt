@@ -18,7 +18,7 @@ pub(crate) enum Kind {
     Flag,
     /// A file, or another text, that has to be there.
     File,
-    /// Files, of which one at least has to be there.
+    /// Files: at least one.
     Files,
 }
 
@@ -308,7 +308,7 @@ pub(crate) const LINK: &Described = &Described {
     groups: &[OUT, OBJECTS],
 };
 
-/// The command that tells where an object lies or, with its flag, how much of the stack sources need.
+/// The command that prints where an object lies or, with its flag, how much of the stack sources need.
 pub(crate) const LOCATE: &Described = &Described {
     name: CommandName::Locate,
     teaching: help::LOCATE,

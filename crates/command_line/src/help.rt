@@ -1,8 +1,8 @@
 //! What `plm --help` prints, beside the lines that `clap` makes of the arguments.
 
-// A text of which the words in capitals stand for lines that several commands have: ASKING for what asks for an explanation, the
-// others for lines of faults, which are the numbers, and what each means, as the fault says it itself (`tables` compares the two).
-// X is the name, or the text, that is printed with the number. What was joined so far stands in the brackets.
+// A text. Its words in capitals stand for lines that several commands have: ASKING for what asks for an explanation, the others
+// for lines of faults. These have the number of a fault, and what it means in the words of the fault itself (`tables` compares
+// the two). X is the name, or the text, that is printed with the number. The brackets hold the text that was joined so far.
 macro_rules! text_of {
     ([$($done:literal)*]) => { concat!($($done),*) };
     // of what asks for an explanation

@@ -256,7 +256,7 @@ fn convert<'a>(alloc: Global, matches: &ArgMatches<'a>) -> Result<Option<Order<'
     })))
 }
 
-// The order for the command that tells where an object lies or, with its flag, the need of sources.
+// The order for the command that prints where an object lies or, with its flag, how much of the stack sources need.
 fn locate<'a>(alloc: Global, matches: &ArgMatches<'a>) -> Result<Option<Order<'a>>, AllocError>
     ensures { IfOk result (λ order. option_map wanted_in order
         ≡ Some (located_of (rows_of (found_of matches.now)))) }

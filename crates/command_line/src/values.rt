@@ -59,7 +59,7 @@ pub struct Settings<'a> {
     pub watch: Watch,
 }
 
-/// U4: an option has a text that is none of its values, or no fault has this number.
+/// U4: the text of an option is not one of its values, or no fault has this number.
 #[derive(Clone, Copy, Debug, Error)]
 #[error("`{text}` is not a value of its option")]
 pub struct ValueFault<'a> {
@@ -291,7 +291,7 @@ fn settings_of<'a>(
 }
 
 impl<'a> PlaceOrder<'a> {
-    /// Where the parts of the program are to lie. It answers U4 only where a text is none of its option's values, with
+    /// Where the parts of the program are to lie. It answers U4 only if a text is not a value of its option, with
     /// the first such text, in the order code, data, stack, stack size.
     pub fn plan(&self) -> Result<Plan, ValueFault<'a>>
         ensures { Reads (plan_read (plan_in self.now.plan)) result }
@@ -299,7 +299,7 @@ impl<'a> PlaceOrder<'a> {
         plan_of(&self.plan)
     }
 
-    /// The address of a jump to the start, where one is wanted. It answers U4 only where its text is none of its values.
+    /// The address of a jump to the start, if one is wanted. It answers U4 only if the text is not a value of the option.
     pub fn jump(&self) -> Result<Option<u16>, ValueFault<'a>>
         ensures { Reads (jump_read (place_in self.now).jump) result }
     {
@@ -325,7 +325,7 @@ impl<'a> PlaceOrder<'a> {
 }
 
 impl<'a> ExecuteOrder<'a> {
-    /// The values of the options. It answers U4 only where a text is none of its option's values, with the first
+    /// The values of the options. It answers U4 only if a text is not a value of its option, with the first
     /// such text, in the order code, data, stack, stack size, limit, input, fill, memory, files of the input, files of the
     /// output; else the values, or that memory ran out. Only an input, the files of ports and bytes of the memory at the
     /// start take memory.
@@ -364,7 +364,7 @@ impl<'a> ExplainOrder<'a> {
 }
 
 impl<'a> NeedOrder<'a> {
-    /// The plan, of which nothing is made. It answers U4 only where a text is none of its option's values, with the
+    /// The plan. Nothing is made with it. It answers U4 only if a text is not a value of its option, with the
     /// first such text, in the order code, data, stack, stack size.
     pub fn plan(&self) -> Result<Plan, ValueFault<'a>>
         ensures { Reads (plan_read (plan_in self.now.plan)) result }
@@ -374,7 +374,7 @@ impl<'a> NeedOrder<'a> {
 }
 
 impl<'a> ProgramOrder<'a> {
-    /// The values of the options. It answers U4 only where a text is none of its option's values, with the first
+    /// The values of the options. It answers U4 only if a text is not a value of its option, with the first
     /// such text, in the order code, data, stack, stack size, limit, input, fill, memory, files of the input, files of the
     /// output; else the values, or that memory ran out. Only an input, the files of ports and bytes of the memory at the
     /// start take memory.

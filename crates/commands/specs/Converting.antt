@@ -139,7 +139,7 @@ module _ (rules : List Rule) (advice : Advice) (wanted : ConvertWanted) (files :
     pub told : TellsUnwritten err_old err_new
     pub begun : AppendsBeginning out_old out_new printed
 
-  -- memory ran out while the table was written that is wanted, of which there is a beginning, and nothing was printed
+  -- memory ran out while the wanted table was written: its file has a beginning of it, and nothing was printed
   pub record StopsBeforeText (now : Option Directory) (err_old err_new out_old out_new : Option (List ℕ)) : Type 0 where
     pub entries : List Entry
     pub printed : List ℕ

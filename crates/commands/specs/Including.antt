@@ -16,13 +16,13 @@ use Rattle.commands.specs.declared.including.TheConstants.{MOST_NAMES}
 abbrev pub IsMissing : Option Directory → List ℕ → Type 0
 IsMissing files name = IsUtf8 name → FindsFile files name None
 
--- what was found under one name: its file, with its text plain, or that there is none
+-- what was found under one name: its file, with its text plain, or no file
 abbrev pub FindsText : Option Directory → List ℕ → Option (List ℕ × List ℕ) → Type 0
 FindsText files name None = IsMissing files name
 FindsText files name (Some found) =
     (text : List ℕ) × HasFile files name text × (found ≡ (name, plain text))
 
--- what was found under these names: the first of which there is a file, with its text plain
+-- what was found under these names: the first name that has a file, with its text plain, or no file
 pub data LooksUp (files : Option Directory) : List (List ℕ) → Option (List ℕ × List ℕ) → Type 0 where
   nowhere : LooksUp files [] None
   here : {name : List ℕ} (text : List ℕ) {names : List (List ℕ)}
@@ -33,7 +33,7 @@ pub data LooksUp (files : Option Directory) : List (List ℕ) → Option (List �
       → LooksUp files names found
       → LooksUp files (name ∷ names) found
 
--- one of these names, of which the file can't be read; there is none of those before it
+-- one of these names: its file can't be read, and the names before it have no file
 pub data StopsLooking (files : Option Directory) : List (List ℕ) → List ℕ → Type 0 where
   at_name : {name : List ℕ} {names : List (List ℕ)}
       → StopsLooking files (name ∷ names) name

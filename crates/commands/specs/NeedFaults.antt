@@ -8,7 +8,7 @@ use Rattle.commands.specs.declared.needs.fault.NeedFault.{NeedFault}
 use Rattle.commands.specs.declared.needs.fault.NeedFault.TheVariants.{TooManySources, Source, Join}
 use Rattle.sources.specs.ProgramFaults.{name_of_joining}
 
--- a name, or a dash where there is none
+-- a name, or a dash if there is no name
 abbrev pub name_or_dash : Option (List ℕ) → List ℕ
 name_or_dash name = unwrap_or name (codes "-")
 
@@ -16,7 +16,7 @@ name_or_dash name = unwrap_or name (codes "-")
 abbrev pub name_at : (names : List (List ℕ)) → (number : ℕ) → List ℕ
 name_at names number = name_or_dash (slice_get names number)
 
--- the line that tells why modules make no program
+-- the line that says why modules make no program
 abbrev pub joining_line : join_fault.Fault → List ℕ
 joining_line fault = refusal_line (of_joining.number_of fault) (name_or_dash (name_of_joining fault)) 0
 

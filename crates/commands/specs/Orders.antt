@@ -50,9 +50,9 @@ WritesAsWanted (wants_execute execute) old new = Unit {0}
 WritesAsWanted (wants_explain explain) old new = Unit {0}
 WritesAsWanted (wants_convert convert) old new = Unit {0}
 
--- where an order ends with another status than 0, no file changes, but that of an order to compile or to link may have
--- a beginning of its object, and those of ports may change, of which more is said below; and so may that of a table, of
--- which Converting says all
+-- If an order ends with another status than 0, no file changes, with three exceptions. The file of an order to compile
+-- or to link may have a beginning of its object. Files of ports may change; more is said of them below. The file
+-- of a table may change; Converting says all of that.
 abbrev pub StopsAsWanted : Wanted → Option Directory → Option Directory → Type 0
 StopsAsWanted (wants_compile compile) old new = StopsCompiling old new compile.source compile.object
 StopsAsWanted (wants_link link) old new = StopsLinking old new link.objects link.out
@@ -158,8 +158,8 @@ QuietAsWanted (wants_explain explain) err_old err_new = err_new ≡ err_old
 QuietAsWanted (wants_convert convert) err_old err_new = err_new ≡ err_old
 
 -- Why an order on one object file is refused. Its plan is one, its jump has an address, and it has one file. What is told
--- is the line of that file, where its failure was counted, or that of another fault, of which no cause is said. Nothing was
--- printed by then, or a beginning of what is printed of the file.
+-- is the line of that file, if its failure was counted, or the line of another fault, whose cause is not said. By then
+-- nothing was printed, or a beginning of what is printed of the file.
 pub record RefusesObject (place : PlaceWanted) (files : Option Directory) (before after : ℕ)
     (err_old err_new out_old out_new : Option (List ℕ)) : Type 0 where
   pub name : List ℕ
@@ -232,8 +232,8 @@ RefusesAsWanted (wants_explain explain) files new before after err_old err_new o
     (after ≡ before) × RefusesPage explain err_old err_new out_old out_new
 RefusesAsWanted (wants_convert convert) files new before after err_old err_new out_old out_new = Unit {0}
 
--- the files that an order reads, in their order, and then the one that it writes, but for those of ports and a table of
--- lines, of which more is said where they can't be written
+-- The files that an order reads, in their order, and then the one that it writes. Not among these are files that it
+-- writes for ports, and a table of lines: more is said where they can't be written.
 abbrev pub names_of : Wanted → List (List ℕ)
 names_of (wants_compile compile) = compile.source ∷ compile.object ∷ []
 names_of (wants_program program) = program.files ++ names_in program.input_files
@@ -302,8 +302,8 @@ RefusesPlaceText Listing place text = plan_read place.plan ≡ Err text
 RefusesPlaceText Symbols place text = plan_read place.plan ≡ Err text
 RefusesPlaceText action place text = file_read place ≡ Err text
 
--- this text of what is wanted is the first that is refused: it is none of its option's values, the name of
--- a second file, or no number of a fault
+-- this text of what is wanted is the first that is refused: it is not a value of its option, it is the name of
+-- a second file, or it is not the number of a fault
 abbrev pub RefusesText : Wanted → (text : List ℕ) → Type 0
 RefusesText (wants_program program) text = values_read program ≡ Err text
 RefusesText (wants_place place) text = RefusesPlaceText place.action place text

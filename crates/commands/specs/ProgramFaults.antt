@@ -10,7 +10,7 @@ abbrev pub file_place : (names : List (List ℕ)) → (file : Option ℕ) → Li
 file_place names None = codes "-"
 file_place names (Some file) = name_at names file
 
--- the name that a fault tells of, or else that of its file, or a dash
+-- the name that a fault is about, or else the name of its file, or a dash
 abbrev pub fault_place : (names : List (List ℕ)) → (name : Option (List ℕ)) → (file : Option ℕ) → List ℕ
 fault_place names (Some name) file = name
 fault_place names None file = file_place names file

@@ -151,7 +151,7 @@ pub record PrintsRead (wanted : ProgramWanted) (values : Values) (files : Option
   pub input : HasInput files values full
   pub printed : PrintsTexts wanted.action wanted.map full texts status outputs old new
 
--- the files that are wanted have texts, of which with these values this was printed
+-- the files that are wanted have texts, and with these values this was printed of the texts
 pub record PrintsFiles (wanted : ProgramWanted) (values : Values) (files : Option Directory) (status : ℕ)
     (outputs : List (List ℕ)) (old new : Option (List ℕ)) : Type 0 where
   pub texts : List (List ℕ)

@@ -21,8 +21,8 @@ stand_of Illegal machine = machine.state.registers.pc
 stand_of PortFault machine = machine.state.registers.pc
 stand_of Limit machine = machine.state.registers.pc
 
--- A run on the machine, of at most so many steps, that ended so with these events stands at this address; or one that
--- came, with these events, to a read past the input, which stands at the instruction that would have read.
+-- A run on the machine, of at most `limit` steps, ended so with these events and stands at this address; or it came,
+-- with these events, to a read past the input, and stands at the instruction that would have read.
 abbrev pub StandsAt :
     (limit : ℕ) → (start : Machine) → Option End → (events : List Event) → (place : ℕ) → Type 0
 StandsAt limit start (Some end) events place =
@@ -40,7 +40,7 @@ abbrev pub no_names : List (List ℕ)
 no_names = []
 
 -- A text names a line of a source: the name of one of these modules, a space (32) and a decimal number. Which line a
--- place has comes from the table of the lines of code, of which no definition says more.
+-- place has comes from the table of the lines of code; no definition says more of that table.
 pub record NamesLine (names : List (List ℕ)) (text : List ℕ) : Type 0 where
   pub name : List ℕ
   pub line : ℕ

@@ -45,7 +45,7 @@ asked_by script Illegal machine = machine.state.events
 asked_by script Limit machine = machine.state.events
 asked_by script PortFault machine = (step_of script machine.state).events
 
--- A run on the machine, of at most so many steps, ended so, with these events, or it came to a read past the input. Where
+-- A run on the machine, of at most `limit` steps, ended so, with these events, or it came to a read past the input. If
 -- it is to end before such a read, a port that failed was not read past its input.
 abbrev pub DoesOnMachine :
     (until_dry : Bool) → (limit : ℕ) → (start : Machine) → Option End → (events : List Event) → Type 0
@@ -54,13 +54,13 @@ DoesOnMachine until_dry limit start (Some end) events =
     × IsWithinIf until_dry start.script (asked_by start.script end machine)
 DoesOnMachine until_dry limit start None events = (until_dry ≡ true) × ComesToDry limit start events
 
--- after so many steps the machine runs, with these events, and its next step would read or write a port
+-- after this number of steps the machine runs, with these events, and its next step would read or write a port
 abbrev pub StopsAfter : (start : Machine) → (events : List Event) → (steps : ℕ) → Type 0
 StopsAfter start events steps =
     (machine : Machine) × FailsAfter start steps machine × (events ≡ machine.state.events)
 
--- So many instructions were carried out: as many as the limit; up to HLT, with that; those before the illegal code;
--- or those before the one whose port failed, or was to be read past its input.
+-- This number of instructions was carried out: as many as the limit; up to HLT, with that; those before the illegal
+-- code; or those before the one whose port failed, or was to be read past its input.
 abbrev pub CarriesOut :
     (limit : ℕ) → (start : Machine) → Option End → (events : List Event) → (steps : ℕ) → Type 0
 CarriesOut limit start (Some Limit) events steps = steps ≡ limit

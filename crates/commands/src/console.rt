@@ -28,13 +28,13 @@ use object_commands::{link_files, print_hex, print_places};
 use std::alloc::Global;
 use std::io::Write;
 
-/// Carries out the words of a command line, the first of which is the program's name, and answers the exit status. What it
+/// Carries out the words of a command line, which begin with the program's name, and answers the exit status. What it
 /// prints goes to `out`, and faults go to `err`, which has nothing more where the status is neither 1 nor 2; a failure of
 /// `err` changes no status. It changes no file but that of `link --out`, which has the merge of the objects where the status
 /// is 0, that of `compile`, which has an object module then, and that of `convert --lines`, which has the table of the text
 /// that is printed; each may have a beginning of it otherwise. None changes
 /// where the words have a fault or ask for help or the version. Sources that are run or interpreted, where the status is
-/// neither 1 nor 2, have had printed what the machine does with their image, or what they mean, and the status tells how
+/// neither 1 nor 2, have had printed what the machine does with their image, or what they mean, and the status says how
 /// that ended; any other command ends with status 0 then, and `compile` and `link` print nothing. A file that can't be read
 /// or written is reported, with status 1, just where a failure of the files was counted. The exceptions are a count that is
 /// at its greatest value, and a wrong value of the command line. Where no such file is reported, sources that are refused

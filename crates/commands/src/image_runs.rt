@@ -1,4 +1,4 @@
-//! Runs of images, of which what they do is printed.
+//! Runs of images, and what is printed of them.
 
 ghost use Rattle.std.specs.Prelude.{◌≡◌, [], None, Some, IfOk, IfSome, OnErr, false, map, true};
 ghost use Rattle.host.specs.internal.Endings.{status_of};
@@ -50,8 +50,8 @@ fn next_read<P: Ports>(machine: &Machine<P>) -> Option<u8>
     }
 }
 
-// Runs a machine for at most so many steps. The answer is how it ended, how many instructions were carried out, and the last
-// line of a source whose code was met, where lines are told.
+// Runs a machine for at most `limit` steps. The answer is how it ended, how many instructions were carried out, and the last
+// line of a source whose code was met, if lines are told.
 fn run_counted<P: Ports>(
     machine: &mut Machine<P>,
     limit: u64,
@@ -141,7 +141,7 @@ fn word_of(end: Option<End>) -> (&'static str, Ending)
     }
 }
 
-// Runs a machine, of which it may be wanted that it ends before it reads a port past its input.
+// Runs a machine. If `values` want that, the run ends before it reads a port past its input.
 fn outcome_of<P: RunPorts>(
     alloc: Global,
     machine: &mut Machine<P>,

@@ -55,7 +55,7 @@ fn find_text<F: Files>(
     }
 }
 
-// The first of names of which there is a file.
+// What was found under `names`: the first name that has a file.
 fn look_at<F: Files>(
     alloc: Global,
     names: &[Vec<u8>],

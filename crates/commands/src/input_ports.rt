@@ -1,4 +1,4 @@
-//! Ports of runs: those that give the bytes of an input, and of which a read past it fails, and others.
+//! Ports of runs: those that give the bytes of an input and fail at a read past it, and others.
 
 ghost use Rattle.std.specs.Prelude.{◌≡◌, ℕ, Bool, [], false, true, length};
 ghost use Rattle.commands.specs.Ends.{GivesInput, bytes_to};

@@ -216,7 +216,7 @@ pub(crate) fn deliver<F: Files, O: Write, E: Write>(
     }
 }
 
-// Shows a run that ended so, or tells why that was not done.
+// Shows a run that ended so, or reports why that was not done.
 fn show_run<O: Write, E: Write>(
     bytes: Option<&[u8]>,
     lines: &[u8],

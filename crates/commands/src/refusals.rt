@@ -7,7 +7,7 @@ use command_line::ValueFault;
 use host::{Ending, refuse};
 use std::io::Write;
 
-/// Prints that an option has a text that is none of its values, or that a file is one too many.
+/// Prints that the text of an option is not one of its values, or that a file is one too many.
 pub(crate) fn refuse_value<E: Write>(fault: &ValueFault, err: &mut E) -> Ending
     ensures ending { result ≡ Ending.WrongLine }
     ensures line { Tells (refusal_line (codes "U4") fault.now.text.now 0)

@@ -105,7 +105,7 @@ pub(crate) fn print_report<O: Write>(
     Ok(outcome.ending)
 }
 
-/// Ends a command whose run was printed; or tells why it was not, or not whole.
+/// Ends a command whose run was printed, or reports why it was not printed, or not whole.
 #[tactic(auto, using(crate::proofs::Untold::memory_unwritten, crate::proofs::Untold::output_unwritten))]
 pub(crate) fn end_run<E: Write>(
     printing: Result<Ending, Failure<WriteFault>>,

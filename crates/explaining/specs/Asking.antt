@@ -31,7 +31,7 @@ plain_after (word ∷ words) =
     else if is_asking word then plain_after words
     else word ∷ plain_after words
 
--- the words of a command line, the first of which is the program's name, without those that ask
+-- the words of a command line, which begin with the program's name, without those that ask
 abbrev pub plain_words : List Text → List Text
 plain_words [] = []
 plain_words (name ∷ words) = name ∷ plain_after words

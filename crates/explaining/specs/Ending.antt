@@ -43,7 +43,7 @@ pub record Ends
   pub count : (status ≡ 1 → ⊥) → after ≡ before
   pub quiet : (status ≡ 1 → ⊥) → (status ≡ 2 → ⊥) → QuietByWords (wanted_by words) err_old err_new
 
--- the same, and then so many tables were looked for at most, and something more is on standard error
+-- the same, and then at most `tables` tables were looked for, and something more is on standard error
 pub record EndsExplained
     (words : List Text) (tables status : ℕ) (files new : Option Directory) (before after : ℕ)
     (err_old err_new out_old out_new : Option (List ℕ)) : Type 0 where

@@ -2,8 +2,8 @@
 use Rattle.std.specs.Prelude.{◌≡◌, ◌≤◌, ◌+◌, ℕ, zero, suc, min, Option}
 use Rattle.host.specs.Files.{Directory, KeepsFiles}
 
--- At most so many files were looked for, and none was changed. Each that was there and could not be read is one failure, and the
--- count stays at its greatest value. Where none is looked for, nothing is done.
+-- At most this number of files was looked for, and none was changed. Each file that was there and could not be read is
+-- one failure, and the count stays at its greatest value. If the number is 0, nothing is done.
 abbrev pub Looks : ℕ → (old new : Option Directory) → (before after : ℕ) → Type 0
 Looks zero old new before after = (new ≡ old) × (after ≡ before)
 Looks (suc more) old new before after =

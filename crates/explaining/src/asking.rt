@@ -28,7 +28,7 @@ fn is_asking(word: &str) -> bool
     word == ASKING || names_table(word)
 }
 
-/// Whether one of the words, the first of which is the program's name, asks for an explanation.
+/// Whether one of the words after the first, which is the program's name, asks for an explanation.
 pub(crate) fn asks(words: &[&str]) -> bool
     ensures { result ≡ asks (texts words.now) }
 {

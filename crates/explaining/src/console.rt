@@ -87,7 +87,7 @@ fn run_explained<F: Files, O: Write, E: Write>(
     status
 }
 
-// Prints how a command ended, of which the files that it read and the lines that it printed are kept.
+// Prints how a command ended, from what is kept of it: the files that it read and the lines that it printed.
 fn explain<F: Files, E: Write>(
     alloc: Global,
     words: &[&str],

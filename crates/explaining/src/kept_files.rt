@@ -54,7 +54,7 @@ pub(crate) fn kept_bytes<'a>(files: &'a [KeptFile], name: &str) -> Option<&'a [u
 }
 
 impl<F> KeptFiles<F> {
-    /// Files, of which nothing is kept yet.
+    /// Files that have kept nothing yet.
     pub fn new(alloc: Global, inner: F) -> KeptFiles<F>
         ensures { result.inner ≡ inner }
     {

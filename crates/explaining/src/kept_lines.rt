@@ -16,7 +16,7 @@ pub struct KeptLines<E> {
 }
 
 impl<E> KeptLines<E> {
-    /// A writer, of which nothing is kept yet.
+    /// A writer that has kept nothing yet.
     pub fn new(alloc: Global, inner: E) -> KeptLines<E>
         ensures { result.inner ≡ inner }
     {

@@ -46,8 +46,8 @@ pub(crate) fn numbered_line(text: &[u8], number: u32) -> &[u8] {
     line_at(text, start_of(text, number))
 }
 
-// Shows the number of a line, and the line: all of a short one, else what stands around a column. Below it comes a mark of
-// that column, where one is wanted.
+// Shows the number of a line, and the line: all of a short one, else the part around a column. Below it comes a mark of
+// that column, if one is wanted.
 fn show(page: &mut Page, number: u32, line: &[u8], column: usize, is_marked: bool) {
     let from = column
         .saturating_sub(BEFORE)

@@ -28,7 +28,7 @@ pub(crate) fn find_named(words: &[Word], name: &[u8], is_procedure: bool) -> Opt
     Some(word.line)
 }
 
-// The line of the innermost procedure around what comes after words.
+// The line of the innermost procedure around the place after `words`.
 fn procedure_after(alloc: Global, words: &[Word]) -> Result<Option<u32>, AllocError> {
     let mut line = None;
     for opener in &openers(alloc, words)? {
@@ -39,7 +39,7 @@ fn procedure_after(alloc: Global, words: &[Word]) -> Result<Option<u32>, AllocEr
     Ok(line)
 }
 
-/// Whether the first label of a name is in another procedure than what comes after words that stand before others.
+/// Whether the first label of a name is in another procedure than the place after `before`, the first ones of `words`.
 pub(crate) fn leaves_procedure(
     alloc: Global,
     words: &[Word],

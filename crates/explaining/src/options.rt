@@ -18,7 +18,7 @@ const VALUES: &str = "\
 --input takes groups as 01:0904/02:FF: a port, a colon and its bytes, in two hexadecimal digits each
 ";
 
-// The option of which a text is the value, or no text, in words after the program's name.
+// The option in `words`, after the program's name, that has the value `value`, or no text.
 fn option_with<'a>(words: &[&'a str], value: &str) -> &'a str {
     let mut before = "";
     for word in words {
@@ -36,7 +36,7 @@ fn option_with<'a>(words: &[&'a str], value: &str) -> &'a str {
     ""
 }
 
-/// Adds what the option takes of which a text is the value, or what the command takes.
+/// Adds what the option with the value `value` takes, or what the command takes.
 pub(crate) fn explain_value(page: &mut Page, words: &[&str], value: &str) {
     let option = option_with(words, value);
     let command = match words {

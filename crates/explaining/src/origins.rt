@@ -13,14 +13,14 @@ struct Row<'a> {
     line: &'a [u8],
 }
 
-// What a table tells of a line.
+// What a table says of a line.
 #[derive(Clone, Copy)]
 enum Origin<'a> {
     // The table can't be read.
     Unread,
     // The file is no table of lines.
     NoTable,
-    // It is the table of a text with so many lines, and of no other.
+    // It is the table of a text with `count` lines, and of no other.
     Other { count: usize },
     // The row of the line.
     From(Row<'a>),
@@ -76,7 +76,7 @@ fn count_lines(text: &[u8]) -> usize {
     }
 }
 
-// What the table of a name tells of the line of a fault in a text.
+// What the table of a name says of the line of a fault in a text.
 fn origin_by<'f>(files: &'f [KeptFile], name: &str, told: Told, text: &[u8]) -> Origin<'f> {
     let Some(table) = kept_bytes(files, name) else {
         return Origin::Unread;
@@ -98,7 +98,7 @@ fn is_any_from(files: &[KeptFile], names: &[&str], told: Told, text: &[u8]) -> b
     false
 }
 
-// Adds what the table of a name tells of the line of a fault.
+// Adds what the table of a name says of the line of a fault.
 fn add_origin<'x>(page: &mut Page, name: &'x str, origin: Origin<'x>, told: Told<'x>, text: &[u8]) {
     let name = Piece::Shown(name.as_bytes());
     match origin {
@@ -124,8 +124,8 @@ fn add_origin<'x>(page: &mut Page, name: &'x str, origin: Origin<'x>, told: Told
     }
 }
 
-/// Adds from where the line of a fault in a text comes, as each of the tables tells it that has as many lines as the text.
-/// It is said which can't be read, and which are none; where no table has so many lines, that is said too.
+/// Adds where the line of a fault in a text comes from, by each table that has as many lines as the text. Also says which
+/// files can't be read, and which are no tables. If no table has as many lines as the text, that is said too.
 pub(crate) fn add_origins(page: &mut Page, seen: &Seen, told: Told, text: &[u8]) {
     let is_any = is_any_from(seen.files, seen.tables, told, text);
     for name in seen.tables {

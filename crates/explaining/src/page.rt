@@ -7,7 +7,7 @@ use std::io::Write;
 // The digits of a byte that is no printed character.
 const DIGITS: &[u8; 16] = b"0123456789ABCDEF";
 
-/// What stands before each line.
+/// The margin before each line.
 pub(crate) const MARGIN: &str = "    ";
 
 /// A piece of a line.
@@ -69,7 +69,7 @@ impl Page {
         self.add(text.as_bytes());
     }
 
-    // Adds addresses in hexadecimal digits, of which there are at least four.
+    // Adds addresses in hexadecimal digits, at least four each.
     fn addresses(&mut self, first: u32, last: u32) {
         let is_added = write!(self.text, "{first:04X}-{last:04X}").is_ok();
         self.note(is_added);

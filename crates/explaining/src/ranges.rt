@@ -35,7 +35,7 @@ fn number_in(text: &str) -> u32 {
     text.parse::<u32>().unwrap_or(0)
 }
 
-// A part of so many bytes that begins at an address.
+// A part of `size` bytes that begins at an address.
 fn part(name: &'static str, address: &str, size: u32) -> Part {
     let start = number_in(address);
     Part {

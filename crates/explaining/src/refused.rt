@@ -51,7 +51,7 @@ pub(crate) fn words_of<'a>(
     (plain, words)
 }
 
-// The words before the first one that begins at a place, and this one with what comes after it.
+// The words before the first one that begins at a place, and this one with the words after it.
 fn split_at_place<'w, 'a>(words: &'w [Word<'a>], start: u32) -> (&'w [Word<'a>], &'w [Word<'a>]) {
     let mut count = words.len();
     for (at, word) in words.iter().enumerate() {

@@ -49,7 +49,7 @@ byte_among (piece ∷ pieces) address = option_or (byte_of_piece piece address) 
 unfoldable pub byte_in : List Piece → (address : ℕ) → Option ℕ
 byte_in pieces address = if nat_lt address MEMORY_SIZE then byte_among pieces address else None
 
--- so many bytes of an image from an address on, as far as they are there, with their addresses
+-- `count` bytes of an image from an address on, as far as they are there, with their addresses
 abbrev pub cell_of : (address : ℕ) → Option ℕ → List (ℕ × ℕ)
 cell_of address None = []
 cell_of address (Some byte) = (address, byte) ∷ []
@@ -86,7 +86,7 @@ abbrev pub instr_text : (name_at : ℕ → Option Symbol) → (is_address : Bool
 instr_text name_at false i = text_of i
 instr_text name_at true i = text_by i (option_and_then name_at (word_of i))
 
--- whether what lies at a target may have a name: code, data, or what an EXTERNAL name stands for, and not the stack
+-- whether something at a target may have a name: code, data, or what an EXTERNAL name stands for, and not the stack
 abbrev pub has_names : Target → Bool
 has_names (InSegment Code) = true
 has_names (InSegment Data) = true
@@ -165,7 +165,7 @@ numbered_line number line =
     replicate (5 - length (decimal number)) 32 ++ decimal number ++ 32 ∷ line ++ 10 ∷ []
 
 -- The parts, each with the number of a line, that stand below the line of this number; and those that stand below none
--- of so many lines.
+-- of the lines 1 to `count`.
 abbrev pub parts_in : (number : ℕ) → List (ℕ × Part) → List (ℕ × Part)
 parts_in number parts = filter (λ (part : ℕ × Part). part.0 == number) parts
 
@@ -193,8 +193,8 @@ sizes_text name code data_range =
 
 -- A module whose segments lie in these ranges is listed as this text: its lines, each with parts of its code; the
 -- parts of its code that stand below no line; its data, byte by byte; and where its segments lie. The parts are the bytes
--- of the image in these ranges, in order, each once. Of the code so many bytes are constants, which come first, stand below
--- no line, and are shown byte by byte; the bytes after them are shown as the instructions that they encode, one after another.
+-- of the image in these ranges, in order, each once. The code begins with `constants` bytes of constants, which stand
+-- below no line and are shown byte by byte; the rest is shown as the instructions that it encodes, one after another.
 -- The first name of an address stands on a line before what begins there, and in place of each word that is the address.
 pub record ListsModule (names : List Symbol) (pieces : List Piece) (code : Range) (constants : ℕ) (fixes : List Fix)
     (data_range : Range) (name source text : List ℕ) : Type 0 where

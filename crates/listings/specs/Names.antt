@@ -105,8 +105,8 @@ pub record BeginsInCode (constants size place : ℕ) : Type 0 where
   pub past : constants ≤ place
   pub within : place < size
 
--- The name of such a procedure or of a routine stands for the address of a byte in the code of its module. Of which one no
--- definition says.
+-- The name of such a procedure or of a routine stands for the address of a byte in the code of its module. No
+-- definition says which byte.
 pub record IsCodeName (code_base : ℕ) (typed : TypedModule) (object : ObjectModule) (symbol : Symbol) : Type 0 where
   pub name : Contains (names_in_code typed) symbol.name
   pub place : ℕ

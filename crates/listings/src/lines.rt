@@ -178,14 +178,14 @@ pub(crate) fn put_parts_in(
     Ok(())
 }
 
-// Whether a line is none of so many lines.
+// Whether a line is not one of the lines 1 to `count`.
 fn is_beside(line: u32, count: u32) -> bool
     ensures { result ≡ ((line == 0) || nat_lt count line) }
 {
     line == 0 || count < line
 }
 
-/// Adds the lines of the parts that stand below none of so many lines.
+/// Adds the lines of the parts that stand below none of the lines 1 to `count`.
 #[tactic(auto, using(crate::proofs::Shown::first_good, crate::proofs::Shown::rest_good, crate::proofs::Shown::none_shown, crate::proofs::Shown::next_beside))]
 pub(crate) fn put_parts_beside(
     lines: &mut Vec<u8>,

@@ -238,8 +238,8 @@ fn put_all_objects(names: &mut Vec<Named>, views: &[ModuleView]) -> Result<(), A
     Ok(())
 }
 
-/// The names of modules: of the objects and the procedures that lie in their segments, and of the routines. What lies AT an
-/// address is not among them.
+/// The names of modules: of the objects and the procedures that lie in their segments, and of the routines. Objects AT an
+/// address are not among them.
 #[tactic(auto, using(crate::proofs::NamesAdded::names_whole))]
 pub(crate) fn names_of(alloc: Global, views: &[ModuleView]) -> Result<Vec<Named>, AllocError>
     ensures { IfOk result (λ names. HasNames views.now (map named_view names.items)) }

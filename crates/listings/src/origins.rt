@@ -109,7 +109,7 @@ fn note_module(origins: &mut Vec<CodeOrigin>, view: &ModuleView, number: u32)
     }
 }
 
-// No code at any of so many addresses.
+// No code at any of `size` addresses.
 #[tactic(auto, using(crate::proofs::LineOrigins::no_lines))]
 fn no_code(alloc: Global, size: usize) -> Result<Vec<CodeOrigin>, AllocError>
     ensures { IfOk result (λ origins. AreOriginsIn 0 origins.items) }

@@ -35,7 +35,7 @@ pub(crate) struct CodeSegment<'a> {
     pub(crate) fixes: &'a [Fix],
 }
 
-// Whether what lies at a target may have a name: code, data or what an EXTERNAL name stands for, and not the stack.
+// Whether something at a target may have a name: code, data or what an EXTERNAL name stands for, and not the stack.
 fn has_names(target: Target) -> bool
     ensures { result ≡ has_names target }
 {
@@ -207,7 +207,7 @@ pub(crate) fn push_code(
     Ok(())
 }
 
-/// Adds the parts of bytes from an address on, so many, each alone.
+/// Adds parts of one byte each for the `count` addresses from `start` on, as far as bytes are there.
 #[tactic(auto, using(crate::proofs::Stepping::places_begin, crate::proofs::Stepping::bytes_go_on, crate::proofs::Stepping::places_end))]
 pub(crate) fn push_bytes(
     parts: &mut Vec<Part>,

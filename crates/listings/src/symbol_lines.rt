@@ -198,7 +198,7 @@ fn note(first: &mut Vec<Option<u32>>, line: u32, place: u32)
     }
 }
 
-// The place of the first code of each line of a source of so many lines, by the line's number. What is in no line has 0.
+// The place of the first code of each line of a source of `count` lines, by the line's number. Code in no line has 0.
 fn first_code(
     alloc: Global,
     marks: &[SourceMark],

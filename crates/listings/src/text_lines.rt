@@ -1,4 +1,4 @@
-//! The lines of a text, each of which ends at a line feed or at the end of the text.
+//! The lines of a text. Each ends at a line feed or at the end of the text.
 
 ghost use Rattle.std.specs.Prelude.{◌≡◌, ◌+◌, ◌≤◌, IfOk, drop, length};
 ghost use Rattle.listings.specs.Listing.{lines_of};

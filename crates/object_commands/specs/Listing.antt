@@ -33,18 +33,18 @@ start_of address bytes = word_digits address ++ 32 ∷ (byte_column bytes ++ 32 
 abbrev pub part_line : (address : ℕ) → (bytes text : List ℕ) → List ℕ
 part_line address bytes text = start_of address bytes ++ text ++ 10 ∷ []
 
--- a public name lies at one of so many addresses, other than the first
+-- a public name lies at one of the `size` addresses from `address` on, other than the first
 abbrev pub is_named_within : List Symbol → (address size : ℕ) → Bool
 is_named_within symbols address size =
     list_any (λ symbol. nat_lt address symbol.address && nat_lt symbol.address (address + size)) symbols
 
--- so many bytes of these can be one instruction: they are there, they lie in the code, and no name is within them
+-- the first `size` of `count` bytes can be one instruction: they are there and in the code, and no name is within them
 abbrev pub is_whole : List Symbol → (code : Range) → (address count size : ℕ) → Bool
 is_whole symbols code address count size =
     nat_le size count && nat_le code.start address && nat_le (address + size) (code.start + code.len)
     && not (is_named_within symbols address size)
 
--- an instruction with its number of bytes, where so many bytes can be one
+-- an instruction with its number of bytes, if that many bytes can be one instruction
 abbrev pub if_whole :
     List Symbol → (code : Range) → (address count : ℕ) → Option (Instr × ℕ) → Option (Instr × ℕ)
 if_whole symbols code address count None = None

@@ -31,7 +31,7 @@ pub record PlacesMerge (files : Option Directory) (names : List (List ℕ)) (pla
 abbrev pub file_at : (names : List (List ℕ)) → (number : ℕ) → List ℕ
 file_at names number = unwrap_or (slice_get names number) (codes "-")
 
--- the name that a refusal of a merge tells of, or a dash
+-- the name that a refusal of a merge is about, or a dash
 abbrev pub name_told : LinkRefusal → List ℕ
 name_told (DuplicatePublic name) = name
 name_told (UnresolvedExternal name) = name
@@ -66,7 +66,7 @@ TellsNoMerge names texts plan old new =
     Tells memory_line old new
     ⊎ (TellsFaulty names texts old new ⊎ (TellsUnmerged texts old new ⊎ TellsUnplaced texts plan old new))
 
--- the files of these names have texts, of which that was told
+-- the files of these names have texts, and that was told of the texts
 pub record RefusesMerge (files : Option Directory) (names : List (List ℕ)) (plan : Plan)
     (old new : Option (List ℕ)) : Type 0 where
   pub texts : List (List ℕ)

@@ -18,7 +18,7 @@ use std::alloc::{AllocError, Global};
 /// How many bytes a jump has.
 pub const JUMP_SIZE: u16 = 3;
 
-/// So many addresses from a base on.
+/// The `size` addresses from `base` on.
 pub(crate) fn range_from(base: u16, size: u16) -> Range
     ensures { result ≡ range_at base size }
 {
@@ -28,7 +28,7 @@ pub(crate) fn range_from(base: u16, size: u16) -> Range
     }
 }
 
-// Whether a range has an address in common with so many from a base on.
+// Whether a range has an address in common with the `size` addresses from `base` on.
 fn meets(range: Range, base: u16, size: u16) -> bool
     ensures { result ≡ ranges_meet range (range_at base size) }
 {

@@ -81,7 +81,7 @@ fn room_left(count: usize) -> &'static str
     }
 }
 
-// Whether a public name lies at one of so many addresses, other than the first.
+// Whether a public name lies at one of the `size` addresses from `address` on, other than the first.
 fn is_named_within(symbols: &[Symbol], address: u16, size: u16) -> bool
     ensures { result ≡ is_named_within (map symbol_view symbols.now) address size }
 {
@@ -106,7 +106,7 @@ fn byte_at(bytes: &[u8], number: usize) -> u8
     }
 }
 
-// Whether so many bytes, of a count that is there, can be one instruction.
+// Whether the first `size` of the `count` bytes that are there can be one instruction.
 fn is_whole(symbols: &[Symbol], code: Range, address: u16, count: usize, size: u8) -> bool
     ensures { result ≡ is_whole (map symbol_view symbols.now) code address count size }
 {

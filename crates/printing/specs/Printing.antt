@@ -15,14 +15,14 @@ end_word Illegal = codes "ILLEGAL"
 end_word PortFault = codes "PORT"
 end_word Limit = codes "LIMIT"
 
--- a run of at most so many steps ended so at this machine, and the lines of its events, but for those of quiet ports,
+-- a run of at most `limit` steps ended so at this machine, and the lines of its events, but for those of quiet ports,
 -- and the word of its end were printed
 pub record PrintsRun (quiet : List ℕ) (limit : ℕ) (start : Machine) (end : End) (machine : Machine)
     (old new : Option (List ℕ)) : Type 0 where
   pub run : IsRun limit start end machine
   pub printed : Appends old new (report_of quiet machine.state.events (end_word end))
 
--- a beginning of what is printed of a run of at most so many steps
+-- a beginning of what is printed of a run of at most `limit` steps
 pub record BeginsRun (quiet : List ℕ) (limit : ℕ) (start : Machine) (old new : Option (List ℕ)) : Type 0 where
   pub end : End
   pub machine : Machine

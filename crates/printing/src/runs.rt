@@ -92,9 +92,9 @@ fn run_slices<W: Write>(
     Ok(end)
 }
 
-/// Runs a machine for at most so many steps, and writes a line for each of its events that is not of a quiet port, those
-/// of some steps at a time while it runs, and then the word that the run ends with. After a failure the writer has a beginning of that text. A
-/// machine that halts is then in the only state in which it is ever halted.
+/// Runs a machine for at most `limit` steps, and writes a line for each of its events that is not of a quiet port, those
+/// of some steps at a time while it runs, and then the word that the run ends with. After a failure the writer has a
+/// beginning of that text. A machine that halts is then in the only state in which it is ever halted.
 #[tactic(auto, using(cpu8080::proofs::MachineLemmas::only_halt))]
 pub fn print_machine<W: Write>(
     machine: &mut Machine<Script>,

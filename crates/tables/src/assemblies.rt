@@ -9,7 +9,7 @@ use isa8080::{Instr, Pair};
 use objmod::{Segment, Target};
 use std::alloc::Global;
 
-// Code of so many instructions of a byte and a jump to the end, which is bound or not.
+// Code of `count` instructions of one byte and a jump to the end, which is bound or not.
 fn long_code(alloc: Global, count: usize, is_bound: bool) -> Result<CodeBytes, Failure<Fault>> {
     let mut code = Code::new(alloc);
     for _ in 0..count {
@@ -33,7 +33,7 @@ fn jump_over(code: &mut Code) -> Result<(), Failure<Fault>> {
     Ok(())
 }
 
-// Code with so many labels.
+// Code with `count` labels.
 fn code_with_labels(alloc: Global, count: usize) -> Result<CodeBytes, Failure<Fault>> {
     let mut code = Code::new(alloc);
     for _ in 0..count {
@@ -42,7 +42,7 @@ fn code_with_labels(alloc: Global, count: usize) -> Result<CodeBytes, Failure<Fa
     code.finish()
 }
 
-// Prints what code is: how many bytes it has, and the last one, or why there is none.
+// Prints what code is: how many bytes it has, and the last one, or why there is no code.
 fn print_code(page: &mut Page, what: &str, made: &Result<CodeBytes, Failure<Fault>>) {
     page.text(what);
     match made {

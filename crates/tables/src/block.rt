@@ -23,7 +23,7 @@ pub struct Block<'a> {
 }
 
 impl<'a> Block<'a> {
-    /// A block of which nothing was read.
+    /// A block before anything of it was read.
     pub fn new(alloc: Global) -> Block<'a> {
         Block {
             place: 0,
@@ -72,7 +72,7 @@ impl<'a> Block<'a> {
         }
     }
 
-    // Takes in a line of its files, the first of which has their name.
+    // Takes in a line of a file. The first line of each file has its name.
     fn read_file(&mut self, alloc: Global, line: &str) -> bool {
         if let Some(name) = line.strip_prefix("@ ") {
             self.files.push(File::new(alloc, name)).is_ok()
@@ -94,7 +94,7 @@ fn read_text(files: &mut Vec<File>, line: &str) -> bool {
     }
 }
 
-// What is said of an output: its text, or only that there is some.
+// What is said of an output: its text, or only that it has some text.
 #[derive(Drop)]
 struct Said {
     text: Bytes,
@@ -102,7 +102,7 @@ struct Said {
 }
 
 impl Said {
-    // That there is none.
+    // That it has no text.
     fn new(alloc: Global) -> Said {
         Said {
             text: Bytes::new(alloc),
@@ -110,8 +110,8 @@ impl Said {
         }
     }
 
-    // Takes in what stands after the mark of an output: `?` where any text will do, or a line after a blank, or how often
-    // it stands and the line after two. Answers whether there was memory for it.
+    // Takes in the rest of a line after the mark of an output: `?` if any text will do; a blank and a line; or `* `, the number
+    // of times that a line stands, a blank and that line. Answers whether there was memory for it.
     fn read(&mut self, said: &str) -> bool {
         if said == "?" {
             self.is_any = true;
@@ -189,8 +189,8 @@ impl Answer {
                 .all(|(file, said)| file.begins(said))
     }
 
-    /// Whether it is what is said, with the same first line told, but for an explanation that tells of a table of
-    /// `--explain=TABLE` that it can't be read.
+    /// Whether it is what is said, with the same first line told, except that an explanation says that a table of
+    /// `--explain=TABLE` can't be read.
     pub fn lacks_table(&self, block: &Block) -> bool {
         block.words.contains("--explain=")
             && block.status.parse::<u8>() == Ok(self.status)

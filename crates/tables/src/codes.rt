@@ -3,7 +3,7 @@
 use crate::page::Page;
 use isa8080::{decode, encode};
 
-// The bytes of instructions, with zeros after those that have less than three, and at last a code that is none.
+// The bytes of instructions, with zeros after those that have less than three, and last a code of no instruction.
 const CODES: [[u8; 3]; 38] = [
     [0x3E, 0x08, 0x00],
     [0x01, 0x01, 0x01],

@@ -1,4 +1,4 @@
-//! Object files of which each byte in turn is changed to each other value.
+//! Object files with each byte in turn changed to each other value.
 
 use crate::page::Page;
 use crate::texts::Bytes;
@@ -36,7 +36,7 @@ impl Counts {
     }
 }
 
-// What comes after the first record of bytes, or the fault of its length or of its sum.
+// The bytes after the first record, or the fault of its length or of its sum.
 fn after_record(bytes: &[u8]) -> Result<&[u8], Fault> {
     let [_, low, high, ..] = bytes else {
         return Err(Fault::Truncated);

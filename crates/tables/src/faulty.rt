@@ -1,4 +1,4 @@
-//! Ports of which one read fails.
+//! Ports with one read that fails.
 
 ghost use Rattle.std.specs.Prelude.{◌≡◌};
 ghost use Rattle.ports.specs.Events.{CountsFailure};
@@ -6,7 +6,7 @@ ghost use Rattle.ports.specs.Events.{CountsFailure};
 use ports::{PortFault, Ports, Script};
 use std::alloc::Global;
 
-/// The ports of a script, of which the read with a number, counted from 0, fails once.
+/// The ports of a script. The read with a number, counted from 0, fails once.
 #[derive(Drop)]
 pub struct FaultyPorts {
     pub script: Script,
@@ -17,7 +17,7 @@ pub struct FaultyPorts {
 }
 
 impl FaultyPorts {
-    /// Ports of which the second read fails, whose port 1 gives 9 and then 4, where there is memory for them.
+    /// Ports whose second read fails. Port 1 gives 9 and then 4, if there is memory for them.
     pub fn with_two_inputs(alloc: Global) -> FaultyPorts {
         let mut script = Script::new(alloc);
         let is_pushed = script.push_input(1, 9).is_ok() && script.push_input(1, 4).is_ok();

@@ -1,4 +1,4 @@
-//! Programs that are interpreted over ports of which a read fails, and a program of no sources.
+//! Programs that are interpreted over ports with a read that fails, and a program of no sources.
 
 use crate::events::print_events;
 use crate::faulty::FaultyPorts;

@@ -101,12 +101,12 @@ pub struct MemoryFiles<'a> {
     pub calls: u64,
     /// How many calls failed.
     pub failed: u64,
-    /// The call that fails, counted from 0, where there are so many.
+    /// The number of the call that fails, counted from 0, if there are that many calls.
     pub failing_call: u64,
 }
 
 impl<'a> MemoryFiles<'a> {
-    /// These files, before any call, of which none is to fail.
+    /// These files, before any call. No call is to fail.
     pub fn new(alloc: Global, files: &'a [File]) -> MemoryFiles<'a>
         ensures { result.failed ≡ 0 }
     {

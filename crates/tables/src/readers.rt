@@ -18,7 +18,7 @@ impl Read for BrokenReader<'_> {
     }
 }
 
-/// A writer that takes so many bytes, and then fails.
+/// A writer that takes `room` bytes, and then fails.
 #[derive(Drop)]
 pub struct ShortWriter {
     pub room: usize,

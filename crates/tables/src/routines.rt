@@ -206,7 +206,7 @@ fn print_steps(page: &mut Page, more: &str, tally: &Tally) {
     print_number(page, "Greatest steps", more, tally.greatest);
 }
 
-// Prints the steps of calls: at the edges, with random arguments, and with those of which DE is a byte, where that tells.
+// Prints the steps of calls: at the edges, with random arguments, and, where that matters, with random ones with a byte in DE.
 fn print_tallies(page: &mut Page, row: &Row, code: &CodeBytes) {
     let edges = tally_of(
         page,

@@ -36,7 +36,7 @@ pub fn machine_with(
     }
 }
 
-// What is done with a machine: so many steps are run, or one is carried out.
+// What is done with a machine: a number of steps are run, or one is carried out.
 enum Move {
     Run(u64),
     Step,

@@ -15,7 +15,7 @@ use std::fmt::Write;
 use tool::ToolFault;
 use typing::Cause;
 
-// What comes before the words of a fault that has a line.
+// The text before the words of a fault that has a line.
 const PLACE: &str = "line 1: ";
 
 // A part of help that has lines of faults.

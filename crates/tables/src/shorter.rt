@@ -1,4 +1,4 @@
-//! Commands whose output fails before all was printed, and commands whose faults can't be told.
+//! Commands whose output fails before all was printed, and commands with faults that can't be told.
 
 use crate::memory_files::{File, MemoryFiles};
 use crate::objects::MERGED;
@@ -78,14 +78,14 @@ const ROWS: [Row; 8] = [
     },
 ];
 
-// Words of which the first name a file that is not there, the next an option that is none, and the last a value that is none.
+// Commands with a fault: a file that is not there, an option that does not exist, and a text that is no value of its option.
 const FAULTY: [&[&str]; 3] = [
     &["plm", "hex", "none.obj"],
     &["plm", "hex", "--none"],
     &["plm", "hex", "--code", "none", "none.obj"],
 ];
 
-// Whether a command is refused with U3 where its output takes so many bytes, and has printed these.
+// Whether a command is refused with U3 if its output takes `room` bytes, and has printed these.
 fn is_refused(alloc: Global, row: &Row, files: &[File], room: usize) -> bool {
     let mut files = MemoryFiles::new(alloc, files);
     let mut err: Vec<u8> = Vec::new(alloc);
@@ -129,7 +129,7 @@ fn print_untold(page: &mut Page) {
     page.text("\n");
 }
 
-/// Prints how often commands are refused whose output is too short, and how they end whose faults can't be told.
+/// Prints how often commands whose output is too short are refused, and how commands with faults that can't be told end.
 pub fn print_shorter(page: &mut Page) {
     for row in &ROWS {
         print_row(page, row);

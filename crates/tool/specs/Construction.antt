@@ -38,8 +38,8 @@ IsTyped typed = IsWellTyped typed × NumbersFitInModule typed × ListsGlobals ty
 
 -- The image does what the program says, with the stack of the plan, and ends with its memory; where it is
 -- loaded each declared byte begins as the program has it; it is the merge of the object modules, placed by
--- the plan, and their files, linked and placed by hand, give it too. The modules make a program, which is
--- well typed, whose jumps go to labels that are known, and whose storage fits; there is an object module for
+-- the plan, and their files, linked and placed by hand, give it too. The modules make a program: it is
+-- well typed, its jumps go to labels that are known, and its storage fits. There is an object module for
 -- each, which keeps what `generate` promises: it does what its module says, and is within the code bound. The
 -- plan is not refused for their code segments, and the program lies lawfully where it puts it.
 pub record IsConstruction (built : Construction) : Type 0 where

@@ -35,13 +35,13 @@ abbrev pub line_of : ToolFault → ℕ
 line_of (Source file fault) = of_source.line_of fault
 line_of fault = 0
 
--- the name that a fault of linking tells of
+-- the name that a fault of linking is about
 abbrev pub name_of_linking : LinkFault → Option (List ℕ)
 name_of_linking (link_faults.DuplicatePublic name) = Some name
 name_of_linking (link_faults.UnresolvedExternal name) = Some name
 name_of_linking fault = None
 
--- the name that it tells of
+-- the name that a fault is about
 abbrev pub name_of : ToolFault → Option (List ℕ)
 name_of (Program fault) = of_program.name_of fault
 name_of (Link fault) = name_of_linking fault

@@ -45,7 +45,7 @@ pub record HasNoPlace (fault : placing_fault.Fault) (texts : List (List ℕ)) (p
   pub cause : placing_refusal (of_placement.plan_view plan) modules (code_lengths objects)
       ≡ Some (of_placement.refusal_of fault)
 
--- the cause that a program has no place, or is none
+-- why texts make no program, or their program has no place
 abbrev pub HasProgramRefusal : ProgramFault → List (List ℕ) → Plan → Type 0
 HasProgramRefusal (Join fault) texts plan = HasNoProgram fault texts
 HasProgramRefusal (Placement fault) texts plan = HasNoPlace fault texts plan
@@ -71,11 +71,11 @@ pub record IsWithoutFault (text : List ℕ) : Type 0 where
   pub object : ObjectModule
   pub compiled : IsCompiledTo text object
 
--- so many texts have no fault
+-- the first `count` texts have no fault
 pub record AreWithoutFault (count : ℕ) (texts : List (List ℕ)) : Type 0 where
   pub each : (file : ℕ) → file < count → IsWithoutFault (text_of texts file)
 
--- How many of so many sources come before a fault in the order in which faults are looked for. The faults of the whole
+-- How many of `count` sources come before a fault in the order in which faults are looked for. The faults of the whole
 -- program come last.
 abbrev pub sources_before : ToolFault → ℕ → ℕ
 sources_before TooManySources count = 0

@@ -84,7 +84,7 @@ fn executed<P: Ports>(
     (end, machine)
 }
 
-/// Loads the image of a program into a memory, and runs it on an 8080 with these ports for at most so many steps. Where
+/// Loads the image of a program into a memory, and runs it on an 8080 with these ports for at most `limit` steps. Where
 /// the program never goes outside, the events are a beginning of those of its source, and a machine that halted has them
 /// all, and the memory of its source where that ended.
 pub fn execute<P: Ports>(built: &Built, memory: Memory, ports: P, limit: u64) -> (End, Machine<P>)
@@ -125,7 +125,7 @@ pub fn execute_with<P: Ports>(
 }
 
 /// Loads the image of a program into a memory, and runs it on an 8080 with this script, and with a table of what it decodes
-/// where one is given, for at most so many steps. It writes a line for each event that is not of a quiet port, those of some
+/// where one is given, for at most `limit` steps. It writes a line for each event that is not of a quiet port, those of some
 /// steps at a time while it runs, and then the word that the run ends with. The answer is how the run ended, and the machine
 /// at its end: a port failed just where that machine has counted it. After a failure the writer has a beginning of that text.
 /// Where the program never goes outside, what is written of a machine that halted is just what a source that ended does, and

@@ -63,7 +63,7 @@ impl ToolFault {
         }
     }
 
-    /// The name of the first EXTERNAL, PUBLIC or AT object that the fault is about, if it tells of one.
+    /// The name of the first EXTERNAL, PUBLIC or AT object that the fault is about, if it is about one.
     pub fn name(&self) -> Option<Name>
         ensures { result ≡ name_of self.now }
     {

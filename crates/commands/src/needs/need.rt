@@ -37,7 +37,7 @@ pub fn need_of_sources(alloc: Global, sources: &[Source]) -> Result<Option<u32>,
     Ok(need)
 }
 
-/// The line that tells how much of the stack the program of sources needs.
+/// The line that says how much of the stack the program of sources needs.
 #[tactic(auto, using(crate::proofs::NeedLemmas::is_need_text))]
 pub fn need_text(alloc: Global, sources: &[Source]) -> Result<String, Failure<NeedFault>>
     ensures text { IfOk result (λ line. IsNeedText (texts_of sources.now) line.bytes.items) }

@@ -12,7 +12,7 @@ use sources::Source;
 use std::alloc::Global;
 use std::io::Write;
 
-/// Prints the line that tells how much of the stack the program of sources needs, with NONE where no number is enough. The
+/// Prints the line that says how much of the stack the program of sources needs, with NONE if no number is enough. The
 /// names are those of the files of the sources, for what is printed where they are refused: the first fault that a build finds
 /// before it makes code. After a write that failed a beginning of the line was printed, and after any other refusal nothing.
 #[tactic(auto, using(crate::proofs::NeedsPrinted::no_need, crate::proofs::NeedsPrinted::prints_need))]

@@ -9,7 +9,7 @@ use crate::programs::name_at;
 use host::{Ending, refuse, refuse_name};
 use std::io::Write;
 
-/// Prints why sources have no need: the number of the fault, the name that it tells of, or the file, or a dash, and the line.
+/// Prints why sources have no need: the number of the fault, the name that it is about, or the file, or a dash, and the line.
 pub(crate) fn refuse_need<E: Write>(fault: &NeedFault, names: &[&str], err: &mut E) -> Ending
     ensures ending { result ≡ Ending.Refused }
     ensures line { Tells (fault_line (map (λ name. name.now) names.now) fault.now)

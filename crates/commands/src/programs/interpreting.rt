@@ -97,7 +97,7 @@ fn print_interpreted<P: RunPorts + Drop, O: Write>(
     print_report(alloc, settings, events, &outcome, outputs, out)
 }
 
-// Interprets a program, of which it may be wanted that it ends before it reads a port past its input.
+// Interprets a program. If `settings` want that, the run ends before it reads a port past its input.
 fn outcome_of<P: RunPorts>(
     alloc: Global,
     settings: &Settings,

@@ -10,7 +10,7 @@ use host::{Ending, refuse, refuse_name};
 use std::io::Write;
 use tool::ToolFault;
 
-/// Prints why sources are refused: the number of the fault, the name that it tells of, or the file, or a dash, and the line.
+/// Prints why sources are refused: the number of the fault, the name that it is about, or the file, or a dash, and the line.
 #[tactic(auto, using(crate::proofs::Refused::of_name, crate::proofs::Refused::of_file))]
 pub(crate) fn refuse_sources<E: Write>(fault: &ToolFault, files: &[&str], err: &mut E) -> Ending
     ensures ending { result ≡ Ending.Refused }

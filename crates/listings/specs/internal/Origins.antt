@@ -16,7 +16,7 @@ IsOriginOf number (Line line) = line.«module» ≡ number
 IsOriginOf number Routine = Unit {0}
 IsOriginOf number Outside = Unit {0}
 
--- a line is one of so many modules
+-- a line is one of the first `count` modules
 abbrev pub IsOriginIn : (count : ℕ) → CodeOrigin → Type 0
 IsOriginIn count (Line line) = line.«module» < count
 IsOriginIn count Routine = Unit {0}
@@ -30,7 +30,7 @@ abbrev pub AreLinesOf : (count : ℕ) → CodeLines → Type 0
 AreLinesOf count lines =
     (address : ℕ) (line : SourceLine) → origin_at lines address ≡ Line line → line.«module» < count
 
--- lines stay those of so many modules, where one more is such a line, or one of the module of this number
+-- lines stay those of the first `count` modules if one more is such a line, or one of the module of this number
 abbrev pub KeepsWith : CodeOrigin → (old new : List CodeOrigin) → Type 0
 KeepsWith origin old new =
     (count : ℕ) → IsOriginIn count origin → AreOriginsIn count old → AreOriginsIn count new

@@ -67,7 +67,7 @@ pub record IsCodeIn (pieces : List Piece) (segment : CodeSegment) (offset : ℕ)
   pub past : segment.constants ≤ offset
 
 -- A part of code that begins after its constants at one address, and ends before another, shows an instruction, or a byte
--- of which none is shown.
+-- where no instruction is shown.
 abbrev pub IsKindBy : Option Instr → List Piece → (begin end address : ℕ) → Type 0
 IsKindBy (Some i) pieces begin end address = begin ≤ address
 IsKindBy None pieces begin end address = IsNoCodeAt pieces begin end address
@@ -99,7 +99,7 @@ abbrev pub cells_if : Option Part → List (ℕ × ℕ)
 cells_if None = []
 cells_if (Some part) = kept_cells part
 
--- Of so many places from an address on, the first ones are shown as a part, or no byte is in the first one.
+-- Of `room` places from an address on, the first ones are shown as a part, or no byte is in the first one.
 pub record StepsOver (pieces : List Piece) (address room : ℕ) (part : Option Part) : Type 0 where
   pub cells : cells_if part ++ cells_in pieces (address + room_of part) (room - room_of part) ≡ cells_in pieces address room
 

@@ -67,7 +67,7 @@ pub record IsViewAt (texts : List (List ℕ)) (built : Construction) (number cod
   pub code : view.code_base ≡ code_base
   pub data_at : view.data_base ≡ data_base
 
--- the first modules of a program, so many, whose segments end before these addresses, each after at most 65535 bytes
+-- the first `count` modules of a program, whose segments end before these addresses, each after at most 65535 bytes
 pub record AreFirstViews (texts : List (List ℕ)) (built : Construction) (count code_end data_end : ℕ)
     (views : List ModuleView) : Type 0 where
   pub text_of_each : map text_of views ≡ take count texts

@@ -7,7 +7,7 @@ use Rattle.cpu8080.specs.Machine.{Machine}
 use Rattle.cpu8080.specs.Runs.{IsRun}
 use Rattle.cpu8080.specs.declared.machine.End.{End}
 
--- a run of at most so many steps, and a beginning of the lines of its events was printed
+-- a run of at most `limit` steps, and a beginning of the lines of its events was printed
 pub record BeginsSlice (quiet : List ℕ) (limit : ℕ) (start machine : Machine) (old new : Option (List ℕ)) : Type 0 where
   pub end : End
   pub run : IsRun limit start end machine

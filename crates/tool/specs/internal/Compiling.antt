@@ -57,7 +57,7 @@ abbrev pub HasGenerationCause : (place : ℕ) → TypedModule → ToolFault → 
 HasGenerationCause place typed (Code file fault) = (file ≡ place) × IsNotMade fault typed
 HasGenerationCause place typed fault = ⊥
 
--- a text is the source of a module of which `generate` makes no object module, for this fault
+-- a text is the source of a module, and `generate` makes no object module of it, for this fault
 pub record IsNotCompiled (fault : code_fault.Fault) (text : List ℕ) : Type 0 where
   pub typed : TypedModule
   pub source : IsSourceOf text typed
