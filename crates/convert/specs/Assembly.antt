@@ -131,7 +131,7 @@ conditioned advice place line control kind blocks parts =
     with_line place (return_of line)
     (told_on advice place (concern_at (value_at parts.switches control) kind blocks) parts)
 
--- a line with controls, of which the last is this, and of which the switches are set and reset
+-- a line with controls whose switches were set and reset already; `control` is the last of its controls
 abbrev pub controlled : Advice → List Entry → Puts → Place → List ℕ → List ℕ → ControlKind → List Block → Parts → Parts
 controlled advice entries puts place line control Include blocks parts =
     if applies blocks then included advice entries puts place line (argument_of control) parts
@@ -150,7 +150,7 @@ controlled advice entries puts place line control Reset blocks parts =
 controlled advice entries puts place line control Other blocks parts =
     conditioned advice place line control Other blocks parts
 
--- a line of a source that applies or not, where it is no line with controls
+-- a line of a source that applies or not, if it is not a line with controls
 abbrev pub plain_line : Bool → List ℕ → List ℕ
 plain_line applying line = if applying then line else return_of line
 
@@ -178,7 +178,7 @@ abbrev pub blocks_put : Advice → Place → List ℕ → List Block → Parts �
 blocks_put advice place line blocks parts =
     if is_control line then blocks_controlled advice place line blocks parts else blocks
 
--- the lines of a file, of which the first has a number, where these IFs are open
+-- the lines of a file, numbered from `number`, where these IFs are open
 abbrev pub lines_put : Advice → List Entry → Puts → ℕ → ℕ → List (List ℕ) → List Block → Parts → Parts
 lines_put advice entries puts file number [] blocks parts = told_open advice file blocks parts
 lines_put advice entries puts file number (line ∷ lines) blocks parts =
@@ -224,7 +224,7 @@ assembled advice entries before sets source =
     lines_put advice entries (file_put advice entries DEEPEST_FILE) 0 1 (lines_of source) []
     (parts_with advice before sets)
 
--- where lines of the source stand, of which the first has a number
+-- the places of lines of the source, numbered from `number`
 abbrev pub places_from : ℕ → List (List ℕ) → List Place
 places_from number [] = []
 places_from number (line ∷ lines) = line_of_source number ∷ places_from (number + 1) lines

@@ -19,7 +19,7 @@ does_apply ElseApplies = true
 does_apply ElsePassed = false
 does_apply ElseStays = true
 
--- the innermost of the open IFs; where none is open, one of which the lines apply
+-- the innermost of the open IFs; if none is open, one whose lines apply
 abbrev pub innermost : List Block → Block
 innermost blocks = get_or blocks (length blocks - 1) (record { branch = Applies; line = 0 })
 
@@ -56,7 +56,7 @@ after_else ElseApplies = ElseApplies
 after_else ElsePassed = ElsePassed
 after_else ElseStays = ElseStays
 
--- the open IFs, of which the innermost comes to another part
+-- the open IFs, once the innermost has come to another part
 abbrev pub with_part : Branch → List Block → List Block
 with_part branch blocks =
     if length blocks == 0 then blocks else

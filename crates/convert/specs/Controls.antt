@@ -40,7 +40,7 @@ kind_at line = kind_of (take (word_length line) line)
 abbrev pub has_quote : List ℕ → Bool
 has_quote line = list_any (λ c. c == 39) line
 
--- whether what comes after a byte is in quotes: after a quote that another one closes, up to that one
+-- whether the text after a byte is in quotes: after a quote that another one closes, up to that one
 abbrev pub quoted_after : Bool → ℕ → List ℕ → Bool
 quoted_after quoted c line = if c == 39 then not quoted && has_quote line else quoted
 
@@ -55,7 +55,7 @@ close_at quoted [] = 0
 close_at quoted (c ∷ line) =
     if (c == 41) && not quoted then 0 else 1 + close_at (quoted_after quoted c line) line
 
--- whether a group is closed of which this follows its `(` (40)
+-- whether a group is closed; `line` is the text after its `(` (40)
 abbrev pub is_closed : List ℕ → Bool
 is_closed line = nat_lt (close_at false line) (length line)
 
@@ -67,12 +67,12 @@ step_at (c ∷ line) =
     else (if (c == 40) && is_closed line then close_at false line + 2
     else (if (c == 39) && has_quote line then quote_at line + 2 else 1))
 
--- what stands in the group at the front: all that follows, if it is not closed; nothing where there is no group
+-- the text in the group at the front: all that follows, if it is not closed; nothing if there is no group
 abbrev pub group_text : List ℕ → List ℕ
 group_text [] = []
 group_text (c ∷ line) = if c == 40 then take (close_at false line) line else []
 
--- what stands in the group after the word at the front
+-- the text in the group after the word at the front
 abbrev pub argument_of : List ℕ → List ℕ
 argument_of line = group_text (after_blanks (drop (word_length line) line))
 
@@ -87,8 +87,8 @@ is_last Set = false
 is_last Reset = false
 is_last Other = false
 
--- A line from the first control on that ends it, where this many bytes at the front are passed over; nothing where there is
--- none. Words in groups and in quotes are no controls.
+-- A line from the first control on that ends it, with the first `passed` bytes passed over; nothing if there is no such
+-- control. Words in groups and in quotes are not controls.
 abbrev pub last_control : ℕ → List ℕ → List ℕ
 last_control passed [] = []
 last_control (suc passed) (c ∷ line) = last_control passed line

@@ -39,7 +39,7 @@ abbrev pub change_at : List ℕ → List Seen → Option Rule → List Change
 change_at source words None = []
 change_at source words (Some rule) = change_by source words rule rule.action
 
--- what a rule tells of the words at the front, which begin on a line
+-- the notes of a rule on the words at the front, which begin on `line`
 abbrev pub note_by : ℕ → Action → List Note
 note_by line (Write puts) = []
 note_by line (Tell text) = record { line = line; text = text } ∷ []
@@ -53,8 +53,8 @@ abbrev pub passed_by : List Seen → Option Rule → ℕ
 passed_by words None = 0
 passed_by words (Some rule) = fit rule words - 1
 
--- The changes in words, of which this many at the front are passed over: at each other word the first rule that fits is
--- taken, and what it found is passed over.
+-- The changes in words, with the first `passed` words passed over: at each other word the first rule that fits is
+-- taken, and the words that it found are passed over.
 abbrev pub changes_after : List Rule → List ℕ → ℕ → List Seen → List Change
 changes_after rules source passed [] = []
 changes_after rules source (suc passed) (seen ∷ words) = changes_after rules source passed words
@@ -62,7 +62,7 @@ changes_after rules source zero (seen ∷ words) =
     change_at source (seen ∷ words) (rule_at rules (seen ∷ words))
     ++ changes_after rules source (passed_by (seen ∷ words) (rule_at rules (seen ∷ words))) words
 
--- what is told of words, of which this many at the front are passed over
+-- what is told of words, with the first `passed` words passed over
 abbrev pub notes_after : List Rule → ℕ → List Seen → List Note
 notes_after rules passed [] = []
 notes_after rules (suc passed) (seen ∷ words) = notes_after rules passed words

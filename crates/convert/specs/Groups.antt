@@ -38,7 +38,7 @@ is_string class = false
 abbrev pub is_text : Seen → Bool
 is_text seen = is_string seen.class && not (length seen.word.text.now == 3)
 
--- in how many parentheses what comes after a word is
+-- how many parentheses are open after a word
 abbrev pub depth_after : ℕ → Class → ℕ
 depth_after depth class = if is_left class then depth + 1 else (if is_right class then depth - 1 else depth)
 
@@ -50,7 +50,7 @@ closing count depth (seen ∷ words) =
     let after = depth_after depth seen.class in
     if after == 0 then count + 1 else (if nat_lt DEEPEST after then 0 else closing (count + 1) after words)
 
--- how many words the group at the front has, with its parentheses; 0 if there is none
+-- how many words the group at the front has, with its parentheses; 0 if there is no group
 abbrev pub group_length : List Seen → ℕ
 group_length [] = 0
 group_length (seen ∷ words) = if is_left seen.class then closing 1 1 words else 0

@@ -53,7 +53,7 @@ abbrev pub candidates : (folders : List (List ℕ)) → (file name : List ℕ) �
 candidates folders file name =
     flat_map (forms_in name) (map with_slash folders) ++ forms_in name (folder_of file)
 
--- what is known of the file of a name: it is no name; it was not looked for; there is none; or its number and its text
+-- what is known of the file of a name: the name is empty; it was not looked for; no such file; or its number and text
 pub data Answer : Type 0 where
   no_name : Answer
   unknown : Answer
@@ -64,7 +64,7 @@ abbrev pub answer_in : ℕ → Option Found → Answer
 answer_in file None = absent
 answer_in file (Some found) = present file found.text.items
 
--- what is known of a file by what was looked for, of which the first has a number
+-- what is known of a file by the names that were looked for, numbered from `file`
 abbrev pub answer_from : ℕ → List ℕ → List Entry → Answer
 answer_from file name [] = unknown
 answer_from file name (entry ∷ entries) =

@@ -25,7 +25,7 @@ is_printed line =
     || (begins (codes "COMPILER INVOKED BY:") line
     || begins (codes "*** ") line))))
 
--- a line from which on there is no source
+-- a line that ends the source: there is no source from it on
 unfoldable pub is_end : List ℕ → Bool
 is_end line =
     begins (codes "MODULE INFORMATION:") line
@@ -61,11 +61,11 @@ listed_body Rest line = drop 14 line
 listed_body Printed line = []
 listed_body Unknown line = line
 
--- what comes out of a line
+-- the text that a line gives
 unfoldable pub listed : List ℕ → List ℕ
 listed line = listed_body (form_of (body line)) (body line) ++ return_of line
 
--- what comes out of lines, with line feeds (10) between them: nothing from the first on that ends the source
+-- the text that lines give, with line feeds (10) between them: nothing from the first line on that ends the source
 abbrev pub listed_text : List (List ℕ) → List ℕ
 listed_text [] = []
 listed_text (line ∷ []) = if is_end line then [] else listed line
@@ -82,7 +82,7 @@ listing_note advice number Rest = record { place = line_of_source number; text =
 listing_note advice number Printed = []
 listing_note advice number Unknown = record { place = line_of_source number; text = advice.no_line } ∷ []
 
--- what is told of lines, of which the first has a number
+-- what is told of lines, numbered from `number`
 abbrev pub listing_notes_from : Advice → ℕ → List (List ℕ) → List PlacedNote
 listing_notes_from advice number [] = []
 listing_notes_from advice number (line ∷ lines) =

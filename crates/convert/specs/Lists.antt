@@ -29,7 +29,7 @@ next_values values.Nothing values = values
 next_values (values.Item part) values = drop (item_length values + 1) values
 next_values (values.Address part bytes) values = values
 
--- what stands after the item of a number
+-- the text after item `number`
 abbrev pub ending : List ℕ → List ℕ → Value → ℕ → List Seen → List ℕ
 ending source attributes value number values = 32 ∷ (attributes ++ value_text source value number values)
 

@@ -50,7 +50,7 @@ counted text lines = if ends_a_line text then take (length lines - 1) lines else
 abbrev pub lines_from : List ℕ → List Change → List ℕ → List ℕ
 lines_from source changes text = counted text (1 ∷ lines_after 0 source changes)
 
--- the row of a line: its file, of which that of the source has this name, and its number there
+-- the row of a line: its file and its number there; `name` is the name of the file of the source
 abbrev pub row : (name : List ℕ) → List Entry → Place → List ℕ
 row name entries place = name_of_file name entries place.file ++ (32 ∷ (decimal place.line ++ 10 ∷ []))
 

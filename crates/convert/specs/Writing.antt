@@ -26,7 +26,7 @@ abbrev pub attributes_of : List ℕ → List Part → ℕ → List Seen → ℕ 
 attributes_of source parts first words from last =
     between source (start_of (words_of_part parts from first words)) (end_after 0 (words_of_part parts last first words))
 
--- what comes after a part, up to the end of another
+-- the text after a part, up to the end of another
 abbrev pub text_after : List ℕ → List Part → ℕ → List Seen → ℕ → ℕ → List ℕ
 text_after source parts first words part last =
     between source (end_after 0 (words_of_part parts part first words)) (end_after 0 (words_of_part parts last first words))

@@ -9,7 +9,7 @@ ghost use Rattle.convert.specs.Advice.{advice_view, usual_advice};
 pub struct Advice {
     /// A line of a listing is the rest of the line before it.
     pub goes_on: &'static str,
-    /// A line is none of a listing.
+    /// A line is not a line of a listing.
     pub no_line: &'static str,
     /// INCLUDE has no name of a file.
     pub no_name: &'static str,

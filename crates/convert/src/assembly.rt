@@ -318,7 +318,7 @@ fn put_include<'a>(
     }
 }
 
-// A line with controls, of which the switches are set and reset.
+// A line with controls whose switches were set and reset already; `control` is the last of its controls.
 #[cycle(putting)]
 fn put_control<'a>(
     alloc: Global,
@@ -504,7 +504,7 @@ pub(crate) fn line_of_source(number: usize) -> Place
     }
 }
 
-// Where lines of the source stand, of which the first is line 1.
+// The places of lines of the source, counted from 1.
 fn places_of(alloc: Global, lines: &[&[u8]]) -> Result<Vec<Place>, AllocError>
     ensures { IfOk result (λ places. places.items ≡ places_from 1 (map (λ line. line.now) lines.now)) }
 {

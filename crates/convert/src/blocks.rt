@@ -43,7 +43,7 @@ pub enum Concern {
     NoIf,
 }
 
-/// The innermost of the open IFs; where none is open, one of which the lines apply.
+/// The innermost of the open IFs; if none is open, one whose lines apply.
 pub(crate) fn innermost(blocks: &[Block]) -> Block
     ensures { result ≡ innermost blocks.now }
 {

@@ -10,7 +10,7 @@ use std::alloc::{AllocError, Global};
 
 const COLUMNS_OF_TEXT: usize = 72;
 
-/// A text of which the lines have no more than 72 columns. Form feeds, zeros and what follows a ^Z are taken away too.
+/// A text with its lines cut to at most 72 columns. Form feeds, zeros and what follows a ^Z are removed too.
 pub(crate) fn carded(alloc: Global, source: &[u8]) -> Result<Vec<u8>, AllocError>
     ensures { IfOk result (λ text. text.items ≡ carded source.now) }
 {

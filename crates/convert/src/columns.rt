@@ -17,7 +17,7 @@ pub(crate) fn front(line: &[u8], count: usize) -> &[u8]
     }
 }
 
-/// What comes after the first bytes of a line, this many or all.
+/// A line without its first `count` bytes, or without all if it has fewer.
 #[tactic(auto, using(crate::proofs::Taken::all_dropped))]
 pub(crate) fn after(line: &[u8], count: usize) -> &[u8]
     ensures { result.now ≡ drop count line.now }

@@ -114,7 +114,7 @@ fn has_quote(line: &[u8]) -> bool
     line.contains(&b'\'')
 }
 
-// Whether what comes after a byte is in quotes, where this is left of the line.
+// Whether the text after a byte is in quotes; `line` is the rest of the line after the byte.
 fn quoted_after(quoted: bool, byte: u8, line: &[u8]) -> bool
     ensures { result ≡ quoted_after quoted byte line.now }
 {
@@ -181,7 +181,7 @@ pub(crate) fn step_at(line: &[u8]) -> usize
     }
 }
 
-// What stands in the group at the front: all that follows, if it is not closed.
+// The text in the group at the front: all that follows, if it is not closed.
 fn group_text(line: &[u8]) -> &[u8]
     ensures { result.now ≡ group_text line.now }
 {
@@ -197,7 +197,7 @@ fn group_text(line: &[u8]) -> &[u8]
     }
 }
 
-/// What stands in the group after the word at the front.
+/// The text in the group after the word at the front.
 pub(crate) fn argument_of(line: &[u8]) -> &[u8]
     ensures { result.now ≡ argument_of line.now }
 {
@@ -218,7 +218,7 @@ pub(crate) fn is_last(kind: ControlKind) -> bool
     }
 }
 
-/// A line from the first control on that ends it; nothing where there is none.
+/// A line from the first control on that ends it; nothing if there is no such control.
 pub(crate) fn last_control(line: &[u8]) -> &[u8]
     ensures { result.now ≡ last_control 0 line.now }
 {

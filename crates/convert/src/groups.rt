@@ -9,7 +9,7 @@ use words::{Mark, ReservedWord};
 /// How deep parentheses in a group may be.
 pub const DEEPEST: usize = 64;
 
-/// In how many parentheses what comes after a word is. It is at most at the word's end.
+/// How many parentheses are open after a word: at most one more than before it.
 pub(crate) fn depth_after(depth: usize, class: Class) -> usize
     requires { depth ≤ 4294967296 }
     ensures depth { result ≡ depth_after depth class }
@@ -32,7 +32,7 @@ pub(crate) fn is_comma(class: Class) -> bool
     }
 }
 
-/// How many words the group at the front has, with its parentheses; 0 if there is none.
+/// How many words the group at the front has, with its parentheses; 0 if there is no group.
 pub(crate) fn group_length(words: &[Seen]) -> usize
     ensures length { result ≡ group_length words.now }
     ensures within { result ≤ length words.now }

@@ -25,11 +25,11 @@ pub struct Entry {
 /// What is known of the file of a name.
 #[derive(Clone, Copy)]
 pub(crate) enum Answer<'a> {
-    /// It is no name.
+    /// The name is empty.
     NoName,
     /// It was not looked for.
     Unknown,
-    /// There is none.
+    /// There is no such file.
     Absent,
     /// Its number, from 1, and its text.
     Present(usize, &'a [u8]),

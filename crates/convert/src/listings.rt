@@ -47,7 +47,7 @@ pub(crate) fn join_listed(alloc: Global, lines: &[&[u8]]) -> Result<Vec<u8>, All
     Ok(text)
 }
 
-// Adds what comes out of a line.
+// Adds the text that a line gives.
 #[tactic(auto, unfolding(crate::specs::Listings::listed))]
 fn add_listed(line: &[u8], text: &mut Vec<u8>) -> Result<(), AllocError>
     ensures { IfOk result (λ _. text.new.items ≡ text.old.items ++ listed line.now) }
@@ -56,7 +56,7 @@ fn add_listed(line: &[u8], text: &mut Vec<u8>) -> Result<(), AllocError>
     text.extend_from_slice(return_of(line))
 }
 
-/// Adds what is told of the lines of a listing, of which the first is line 1.
+/// Adds what is told of the lines of a listing, counted from 1.
 pub(crate) fn note_listing(
     advice: &Advice,
     lines: &[&[u8]],
@@ -149,7 +149,7 @@ fn is_printed(line: &[u8]) -> bool
                     || (line.starts_with(b"COMPILER INVOKED BY:") || line.starts_with(b"*** ")))))
 }
 
-// Whether no source comes from a line on.
+// Whether a line ends the source: there is no source from it on.
 #[tactic(auto, unfolding(crate::specs::Listings::is_end))]
 fn is_end(line: &[u8]) -> bool
     ensures { result ≡ is_end line.now }

@@ -51,7 +51,7 @@ pub(crate) fn write_list(
     write_ending(source, attributes, value, number, values, text)
 }
 
-// Adds what stands after the item of a number.
+// Adds the text after item `number`.
 fn write_ending(
     source: &[u8],
     attributes: &[u8],

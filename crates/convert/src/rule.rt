@@ -38,7 +38,7 @@ pub enum Part {
 pub enum Put {
     /// The text of a part.
     Copy(u8),
-    /// What comes after a part, up to the end of another.
+    /// The text after a part, up to the end of another.
     After(u8, u8),
     /// These bytes.
     Text(&'static [u8]),

@@ -21,7 +21,7 @@ pub struct Switch<'a> {
 pub enum Expects {
     /// A name, or NOT.
     Operand,
-    /// The name of which NOT stands before.
+    /// The name after NOT.
     Negated,
     /// AND, OR or the end.
     Operator,
@@ -36,7 +36,7 @@ pub struct Condition {
     pub any: bool,
     /// Whether all names since the last OR hold.
     pub all: bool,
-    /// What comes next.
+    /// What it expects next.
     pub expects: Expects,
 }
 

@@ -7,7 +7,7 @@ pub enum Remaining {
     Nothing,
     /// To halt.
     Halt,
-    /// To stop at a code that is none of the 8080's.
+    /// To stop at a code that is not one of the 8080's.
     IllegalCode,
     /// To read a port.
     Input,

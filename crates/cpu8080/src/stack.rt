@@ -68,8 +68,8 @@ pub fn jump_if<M: MachineMemory>(condition: bool, pc: &mut u16, memory: &M)
     }
 }
 
-/// A jump at the end of a line, whose address lies so many bytes after the program counter: goes on there, or after the
-/// instruction.
+/// A jump at the end of a line. Its address lies `distance` bytes after the program counter. Goes on at that address, or
+/// after the instruction.
 #[inline(always)]
 pub fn jump_after<M: MachineMemory>(condition: bool, distance: u16, pc: &mut u16, memory: &M)
     requires within { pc.old + distance + 1 < MEMORY_SIZE }
@@ -105,7 +105,7 @@ pub fn return_if<M: MachineMemory>(
     }
 }
 
-/// A return at the end of a line, which ends so many bytes after the program counter: goes on at the address on top of
+/// A return at the end of a line. It ends `distance` bytes after the program counter. Goes on at the address on top of
 /// the stack, or after the instruction.
 #[inline(always)]
 pub fn return_after<M: MachineMemory>(
@@ -169,7 +169,7 @@ pub fn call_if<M: MachineMemory>(
     }
 }
 
-/// A call of the address that lies so many bytes after the program counter, within the memory.
+/// A call of the address that lies `distance` bytes after the program counter, within the memory.
 #[inline(always)]
 pub fn call_after<M: MachineMemory>(
     distance: u16,
