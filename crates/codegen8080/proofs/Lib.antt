@@ -18,8 +18,11 @@ pub mod Driving
 pub mod BodyParts
 pub mod ModuleParts
 pub mod ObjectParts
+pub mod RoutinesStand
+pub mod SomeCode
+pub mod BegunCode
 pub mod Marked
+pub mod NamedPlaces
 pub mod Refused
 pub mod NameLoops
 pub mod ItemsByName
-pub mod RoutinesStand

@@ -9,6 +9,7 @@ use Rattle.steps8080.specs.internal.Writer.{AreWritable, CountsNamed, is_marked,
 use Rattle.exprgen8080.specs.internal.Emission.{module_label_of_routine}
 use Rattle.codegen8080.specs.internal.Bodies.{AreFree, IsLabelOf}
 use Rattle.codegen8080.specs.internal.ItemLabels.{ItemsBind}
+use Rattle.codegen8080.specs.internal.Modules.{IsWrittenWith}
 use Rattle.codegen8080.specs.internal.Sources.{IsOfModule}
 use Rattle.codegen8080.specs.internal.Standing.{AllStand}
 use Rattle.codegen8080.proofs.BoundModules.{contents_unbound, own_code_bound}
@@ -853,6 +854,26 @@ code_written tree start before between called written after none own called_is w
                 (ap (λ flags. has_routine flags routine) (sym none.called) ∙ old))
             | inr is_called ↦ is_called
           ];
+    }
+
+-- the same, with the table that marks the routines that are called
+pub code_written_with :
+    (tree : TreeModule) (start : ℕ) (before between : Generator) (called table : List Bool)
+    (written after : Written)
+    → IsEmpty tree before.emission
+    → AddsOwnCode tree start before between
+    → called ≡ between.emission.is_called.items
+    → table ≡ between.emission.is_called.items
+    → written ≡ between.emission.writer
+    → AddsRoutines tree called all_routines written after
+    → IsOfModule tree
+    → between.emission.steps.labels < 4294967295
+    → IsWrittenWith tree start table after
+unfolding code_written
+code_written_with tree start before between called table written after none own called_is table_is written_is added made few =
+    record {
+      code = code_written tree start before between called written after none own called_is written_is added made few;
+      called_is = sym table_is;
     }
 
 -- each label of code is named by the first items that are added to none, or bound by the others

@@ -167,7 +167,7 @@ module _ (tree : TreeModule) (called : List Bool) (written : Written) (routine :
     routines_bind (first ∷ others) list are (inr later) =
         subst (ItemsBind label) (sym are.4) (bound_after label are.0 are.1 (routines_bind others are.1 are.3 later))
 
-is_a_routine : (routine : Routine) → IsOneOf routine all_routines
+pub is_a_routine : (routine : Routine) → IsOneOf routine all_routines
 is_a_routine routines.Multiply = inl refl
 is_a_routine routines.Divide = inr (inl refl)
 is_a_routine routines.ShiftLeftByte = inr (inr (inl refl))

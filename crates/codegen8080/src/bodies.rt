@@ -11,7 +11,7 @@ ghost use Rattle.codegen8080.specs.internal.Bodies.{AddsEnd, AddsEntry, AddsMain
 
 use crate::carrying::site_of;
 use crate::generator::Generator;
-use crate::marking::CodePart;
+use crate::marking::OwnPart;
 use crate::procedures::{plan_end, plan_entry};
 use asm8080::WordForm;
 use exprgen8080::{LabelNumber, Step};
@@ -109,7 +109,7 @@ fn put_own(
 {
     let frame = frame_of(alloc, procedure)?;
     let body = body_of(generator, tree, procedure, &frame);
-    let part = CodePart::Procedure(entry.index);
+    let part = OwnPart::Procedure(entry.index);
     generator.marks.put(&generator.emission.writer, part)?;
     generator.emission.add(&site_of(&body), Step::Mark(entry))?;
     generator.goes_on = true;
@@ -156,7 +156,7 @@ pub(crate) fn put_main(
 {
     let frame = FramePlan::empty(alloc);
     let body = body_of(generator, tree, &tree.main, &frame);
-    let part = CodePart::Main;
+    let part = OwnPart::Main;
     generator.marks.put(&generator.emission.writer, part)?;
     generator.emission.add(&site_of(&body), Step::Mark(entry))?;
     generator

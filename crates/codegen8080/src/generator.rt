@@ -13,7 +13,7 @@ ghost use Rattle.codegen8080.specs.internal.Statements.{statement_labels, statem
 ghost use Rattle.codegen8080.specs.internal.Carrying.{CarriesOut};
 
 use crate::carrying::{carry, site_of};
-use crate::marking::{CodePart, Marks};
+use crate::marking::{Marks, OwnPart};
 use crate::meeting::{Here, here_after, waiting_after};
 use crate::statements::plan_statement;
 use exprgen8080::{Emission, Facts};
@@ -149,7 +149,7 @@ impl Generator {
         ensures plan { OnOk result (self.new.plan.list.items ≡ self.old.plan.list.items) }
     {
         let statement = statement_at(body.tree, number);
-        let part = CodePart::Statement(number);
+        let part = OwnPart::Statement(number);
         self.marks.put(&self.emission.writer, part)?;
         let start = self.plan.count();
         self.plan_next(body, statement)?;

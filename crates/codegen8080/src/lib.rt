@@ -19,4 +19,4 @@ mod targets;
 pub use fault::Fault;
 pub use marking::{CodePart, Mark};
 pub use meeting::Here;
-pub use module::{Generated, generate};
+pub use module::{CodeMarks, Generated, generate};

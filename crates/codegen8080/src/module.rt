@@ -1,12 +1,12 @@
 //! Generation of object modules from modules of tree code.
 
-ghost use Rattle.std.specs.Prelude.{◌≡◌, ◌<◌, false, length, slice_index_or, Some, IfOk, OnOk};
+ghost use Rattle.std.specs.Prelude.{◌≡◌, ◌<◌, length, Some, IfOk, OnOk};
 ghost use Rattle.failure.specs.Failure.{IfFault};
 ghost use Rattle.asm8080.specs.Assembled.{AllBound};
 ghost use Rattle.treecode.specs.internal.Nodes.{nodes_of};
 ghost use Rattle.treecode.specs.internal.Rising.{NumbersRise};
-ghost use Rattle.codegen8080.specs.internal.Modules.{IsCodeWritten, IsGenerated, all_routines, content_items, contents_items, has_main};
-ghost use Rattle.codegen8080.specs.Marks.{LieInCode};
+ghost use Rattle.codegen8080.specs.internal.Modules.{IsGenerated, IsWrittenWith, all_routines, constant_size, content_items, contents_items, has_main};
+ghost use Rattle.codegen8080.specs.Marks.{BeginInCode, LieInCode, NamesBegin};
 ghost use Rattle.codegen8080.specs.internal.Marking.{AreMarksOf};
 ghost use Rattle.codegen8080.specs.internal.Refusals.{IsNoSegment, MayRefuse};
 ghost use Rattle.codegen8080.specs.internal.Bodies.{AddsCalled, AddsCodeOfMain, AddsOwnCode, AddsProcedures, AddsRoutines, first_routines, last_routines, next_routines};
@@ -21,7 +21,7 @@ ghost use Rattle.steps8080.specs.internal.Writer.{Finishes, NumbersNames, Writes
 use crate::bodies::{put_main, put_procedure};
 use crate::fault::Fault;
 use crate::generator::Generator;
-use crate::marking::{Mark, Marks};
+use crate::marking::{Mark, Marks, is_called_at, procedure_places};
 use crate::names::{ListedNames, listed_names, with_publics};
 use crate::object::object_of;
 use exprgen8080::{Externals, Finished, LabelNumber, Writer, routine_label};
@@ -32,10 +32,12 @@ use std::alloc::{AllocError, Global};
 use treecode::{Content, TreeModule, TreeProcedure};
 use trees::next_number;
 
-/// The code of a module, the label of its main program, and where the parts before the routines begin.
+/// The code of a module, the label of its main program, whether each routine is called, and where the parts before the
+/// routines begin.
 pub(crate) struct ModuleCode {
     pub(crate) writer: Writer,
     pub(crate) start: LabelNumber,
+    pub(crate) is_called: Vec<bool>,
     pub(crate) marks: Marks,
 }
 
@@ -108,16 +110,6 @@ fn put_main_if_any(
         put_main(alloc, generator, tree, start)
     } else {
         Ok(())
-    }
-}
-
-// Whether the routine with this index is called.
-fn is_called_at(is_called: &[bool], index: u32) -> bool
-    ensures { result ≡ slice_index_or is_called.now index false }
-{
-    match is_called.get(index as usize) {
-        Some(is_called) => *is_called,
-        None => false,
     }
 }
 
@@ -197,6 +189,7 @@ fn put_own_code(
     ensures { IfOk result (λ start. AddsOwnCode tree.now start.index generator.old generator.new) }
 {
     put_contents(&mut generator.emission.writer, tree.constants.as_slice())?;
+    generator.marks.begin(&generator.emission.writer);
     let start = generator.emission.steps.label();
     put_main_if_any(alloc, generator, tree, start)?;
     put_procedures(alloc, generator, tree, tree.procedures.as_slice())?;
@@ -220,7 +213,8 @@ pub(crate) fn code_of(alloc: Global, tree: &TreeModule) -> Result<ModuleCode, Al
     requires rise { NumbersRise (nodes_of tree.now) }
     requires stands { BodiesStand tree.now }
     requires source { IsOfModule tree.now }
-    ensures written { IfOk result (λ code. IsCodeWritten tree.now code.start.index code.writer) }
+    ensures written { IfOk result
+        (λ code. IsWrittenWith tree.now code.start.index code.is_called.items code.writer) }
     ensures bound { IfOk result (λ code. AllBound code.writer.code) }
 {
     let mut generator = Generator::new(alloc, tree)?;
@@ -232,6 +226,7 @@ pub(crate) fn code_of(alloc: Global, tree: &TreeModule) -> Result<ModuleCode, Al
     Ok(ModuleCode {
         writer,
         start,
+        is_called,
         marks,
     })
 }
@@ -301,11 +296,19 @@ fn names_of(
     Ok(listed)
 }
 
-/// What is made of a module: its object module, and where the parts of its code begin, in the order of the code.
+/// Where the parts of the code of a module begin, in the order of the code, and where the code of each of its procedures
+/// begins, by its number.
+#[derive(Drop)]
+pub struct CodeMarks {
+    pub parts: Vec<Mark>,
+    pub procedures: Vec<u16>,
+}
+
+/// What is made of a module: its object module, and the marks of its code.
 #[derive(Drop)]
 pub struct Generated {
     pub object: ObjectModule,
-    pub marks: Vec<Mark>,
+    pub marks: CodeMarks,
 }
 
 /// The object module of a module: its constants and its code in the code segment, its variables in the data segment,
@@ -317,17 +320,25 @@ pub fn generate(alloc: Global, tree: &TreeModule) -> Result<Generated, Failure<F
     requires linkable { IsLinkable tree.now }
     requires source { IsOfModule tree.now }
     ensures made { IfOk result (λ generated. IsGenerated tree.now generated.object) }
-    ensures marked { IfOk result (λ generated. AreMarksOf tree.now generated.marks.items) }
-    ensures within { IfOk result (λ generated. LieInCode generated.object generated.marks.items) }
+    ensures marked { IfOk result
+        (λ generated. AreMarksOf tree.now generated.marks.parts.items generated.marks.procedures.items) }
+    ensures within { IfOk result
+        (λ generated. LieInCode (constant_size tree.now) generated.object generated.marks.parts.items) }
+    ensures begin { IfOk result (λ generated. BeginInCode (constant_size tree.now) generated.object
+        tree.now.procedures.items generated.marks.procedures.items) }
+    ensures named { IfOk result (λ generated. NamesBegin generated.object.publics
+        generated.marks.procedures.items tree.now.publics.items) }
     ensures refused { IfFault result (λ fault. MayRefuse tree.now fault) }
 {
     let ModuleCode {
         writer,
         start,
+        is_called,
         marks,
     } = code_of(alloc, tree)?;
     let (code, externals) = finish(writer)?;
-    let marks = marks.with_routines(alloc, tree, &code)?;
+    let marks = marks.with_routines(alloc, tree, &code, is_called.as_slice())?;
+    let procedures = procedure_places(alloc, tree, &code)?;
     let (variables, externals) = finish(variables_of(alloc, tree, externals)?)?;
     let listed = names_of(alloc, tree, &externals, &code)?;
     let start = start_of(tree, &code, start);
@@ -341,5 +352,11 @@ pub fn generate(alloc: Global, tree: &TreeModule) -> Result<Generated, Failure<F
         numbers.as_slice(),
         start,
     )?;
-    Ok(Generated { object, marks })
+    Ok(Generated {
+        object,
+        marks: CodeMarks {
+            parts: marks,
+            procedures,
+        },
+    })
 }

@@ -17,6 +17,8 @@ pub mod Names
 pub mod Refused
 pub mod PlacesTold
 pub mod StandingTold
+pub mod PartsCounted
+pub mod PartLines
 pub mod Printed
 pub mod PrintedReports
 pub mod PortReads

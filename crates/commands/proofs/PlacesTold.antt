@@ -1,5 +1,6 @@
 -- Where runs of images stand: addresses that are told, and lines.
-use Rattle.commands.proofs.Prelude.{◌≡◌, ◌∙◌, ℕ, List, [], ◌∷◌, ◌++◌, length, length-map, map, subst, Option, Some, inl, inr, ap, sym, arith, decimal, Joined, Typed, Values, BeginsImage, PrintsImage, module_view, modules_of, program_modules, slice_get, slice_get-map, contains_at, TypedModule, Absolute, StopsImage, NamesLine, NamesPlace, module_names, no_names, IfOk, String, address_digits}
+use Rattle.std.proofs.lemmas.Option.{get_or_from_slice_get, slice_get_within}
+use Rattle.commands.proofs.Prelude.{◌≡◌, ◌∙◌, ℕ, List, [], ◌∷◌, ◌++◌, length, length-map, map, subst, Option, Some, inl, inr, ap, sym, arith, decimal, Joined, Typed, Values, BeginsImage, PrintsImage, module_view, modules_of, program_modules, slice_get, slice_get-map, TypedModule, Absolute, StopsImage, NamesLine, NamesPlace, module_names, no_names, IfOk, String, address_digits}
 use Rattle.std.specs.Prelude.{option_map, Result, Ok, Err}
 use Rattle.listings.specs.{declared.origins.CodeLines.{CodeLines}, internal.Origins.{AreLinesOf}}
 use Rattle.std.proofs.Common.{Global}
@@ -53,10 +54,14 @@ line_named program modules index typed line text are found is = record {
   name = typed.name;
   line = line;
   of_module =
-      contains_at (module_names program) index typed.name
-      (slice_get-map (λ (one : TypedModule). one.name) (map module_view (modules_of program)) index
+      let named : slice_get (module_names program) index ≡ Some typed.name =
+      slice_get-map (λ (one : TypedModule). one.name) (map module_view (modules_of program)) index
       ∙ ap (option_map (λ (one : TypedModule). one.name)) (slice_get-map module_view (modules_of program) index
-      ∙ ap (option_map module_view) (ap (λ (l : List Typed). slice_get l index) (sym are) ∙ found)));
+      ∙ ap (option_map module_view) (ap (λ (l : List Typed). slice_get l index) (sym are) ∙ found)) in (
+        index,
+        slice_get_within (module_names program) index typed.name named,
+        get_or_from_slice_get (module_names program) index typed.name typed.name named,
+      );
   text_is = is;
 }
 

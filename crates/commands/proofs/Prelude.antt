@@ -37,7 +37,6 @@ unfoldable pub use Rattle.host.specs.Refusals.{TellsRefusal, refusal_line}
 pub use Rattle.object_commands.proofs.{FilesWritten.{kept_others, kept_then_others, kept_then_stopped, kept_then_written, written_others}, Lines.{hole_is}, Lists.{item_added}}
 pub use Rattle.object_commands.specs.{Linking.{KeepsOthers, StopsWriting}, Listing.{PrintsListing, StopsListing}, Merging.{PlacesMerge}, Placing.{address_digits}}
 unfoldable pub use Rattle.object_commands.specs.Merging.{RefusesPlacing}
-pub use Rattle.listings.proofs.NamesAdded.{contains_at}
 pub use Rattle.clap.specs.{Walk.{texts}, Words.{Kinds, kind_of}, declared.error.ErrorKind.TheVariants.{DisplayHelp, DisplayVersion}}
 pub use Rattle.commands.specs.Compiling.{CompilesFile, CompilesTo, StopsCompiling}
 pub use Rattle.commands.specs.Converting.{Converts, ConvertsAsWanted, ConvertsByTables, ConvertsByWords, HasNoConversion, IsMistyped, IsModule, IsNoModule, IsPutTogether, StopsIncluding, StopsSource, TellsAsWanted, TellsByWords, TellsOutput, changed, fault_line_at, medium_of, rewritten}

@@ -1,5 +1,6 @@
 pub mod LineFaults
 pub mod Lines
+pub mod PartLines
 pub mod Places
 pub mod Reading
 pub mod Converting

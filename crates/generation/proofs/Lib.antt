@@ -6,3 +6,4 @@ pub mod TreeCode
 pub mod Linkable
 pub mod Programs
 pub mod Doing
+pub mod Lying

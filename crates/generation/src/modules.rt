@@ -8,8 +8,8 @@ ghost use Rattle.treecode.specs.internal.Rising.{NumbersRise};
 ghost use Rattle.codegen8080.specs.internal.Sources.{IsOfModule};
 ghost use Rattle.codegen8080.specs.internal.Standing.{BodiesStand};
 ghost use Rattle.codegen8080.specs.internal.Modules.{IsGenerated};
-ghost use Rattle.codegen8080.specs.Marks.{LieInCode};
 ghost use Rattle.codegen8080.specs.internal.Marking.{AreMarksOf};
+ghost use Rattle.generation.specs.Marks.{LieInModule};
 ghost use Rattle.codegen8080.specs.internal.Names.{IsLinkable};
 ghost use Rattle.codegen8080.specs.internal.Refusals.{MayRefuse};
 ghost use Rattle.image_laws.specs.Objects.{IsObjectOf};
@@ -30,7 +30,7 @@ use treecode::TreeModule;
 /// main program do on the machine what the module says, by what calls do. The code segment is within the code bound of the
 /// module, and the code of each body pushes no more bytes than the charge of its procedure leaves. Refuses a module whose
 /// storage fits for its length (G1) only where that bound passes 65535.
-#[tactic(auto, using(crate::proofs::Contract::soundly_made, crate::proofs::Contract::code_does, crate::proofs::Contract::object_is, crate::proofs::Contract::segments_are, crate::proofs::Contract::names_are, crate::proofs::Counting::counted, crate::proofs::Bounding::within_bound, crate::proofs::Bounding::refusal_past_bound, crate::proofs::Bounding::refusal_makes_none))]
+#[tactic(auto, using(crate::proofs::Contract::soundly_made, crate::proofs::Contract::code_does, crate::proofs::Contract::object_is, crate::proofs::Contract::segments_are, crate::proofs::Contract::names_are, crate::proofs::Counting::counted, crate::proofs::Lying::lie_in_module, crate::proofs::Bounding::within_bound, crate::proofs::Bounding::refusal_past_bound, crate::proofs::Bounding::refusal_makes_none))]
 pub fn generate(alloc: Global, tree: &TreeModule) -> Result<Generated, Failure<Fault>>
     requires rise { NumbersRise (nodes_of tree.now) }
     requires stands { BodiesStand tree.now }
@@ -44,8 +44,10 @@ pub fn generate(alloc: Global, tree: &TreeModule) -> Result<Generated, Failure<F
     ensures names { IfOk result (λ generated. OfItsModule tree.now HasNames generated.object) }
     ensures counted { IfOk result (λ generated. OfItsModule tree.now (IsCounted tree.now) generated.object) }
     ensures bound { IfOk result (λ generated. IsWithinBound tree.now generated.object) }
-    ensures marked { IfOk result (λ generated. AreMarksOf tree.now generated.marks.items) }
-    ensures within { IfOk result (λ generated. LieInCode generated.object generated.marks.items) }
+    ensures marked { IfOk result
+        (λ generated. AreMarksOf tree.now generated.marks.parts.items generated.marks.procedures.items) }
+    ensures lie { IfOk result
+        (λ generated. OfItsModule tree.now (LieInModule generated.marks) generated.object) }
     ensures refused { IfFault result (λ fault. MayRefuse tree.now fault) }
     ensures past { IfFault result (λ fault. IsPastBound tree.now fault) }
     ensures not_made { IfFault result (λ fault. MakesNone tree.now fault) }

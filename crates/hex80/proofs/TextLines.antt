@@ -1,4 +1,5 @@
 -- The lines of a text that is written.
+use Rattle.std.proofs.lemmas.Bool.{ne_eqb}
 use Rattle.hex80.proofs.Prelude.{◌≡◌, ℕ, ◌+◌, ◌-◌, ◌/◌, ◌%◌, ◌<◌, ◌≤◌, Bool, true, false, cond, ◌==◌, nat_lt, List, [], ◌∷◌, ◌++◌, length, get_or, take, flat_map, map, refl, ap, sym, ◌∙◌, arith, All, AllByRecursion, slice_split, onto_first, lines, lines_of_parts, strip_carriage_return, eqb-true, append_assoc, All-from_recursion, All-get_or, slice_split_at, Piece, checksum_of, digit_of, digits_of, data_line_bytes, data_line, end_line, ended_line, written_line}
 
 -- a character that ends no line
@@ -6,11 +7,7 @@ abbrev IsPlain : ℕ → Type 0
 IsPlain character = 48 ≤ character
 
 not_equal : (a b : ℕ) → b < a → (a == b) ≡ false
-not_equal a b h = go (a == b) refl
-  where
-    go : (t : Bool) → (a == b) ≡ t → t ≡ false
-    go false e = refl
-    go true e = let same : a ≡ b = eqb-true a b e in absurd (omega arith)
+not_equal a b h = ne_eqb a b (λ (same : a ≡ b). omega arith)
 
 -- the parts of a text are some
 pub data Parts (xs : List ℕ) : Type 0 where

@@ -84,12 +84,6 @@ pub one_spelled : (text : List ℕ) (left right : List Piece) → Spells text le
 one_spelled text left right a b =
     same_Ok {E = Fault} left right (sym (pieces_are text left a) ∙ pieces_are text right b)
 
--- and has one first fault at most
-pub one_fault : (text : List ℕ) (left right : Fault) → HasFirstFault text left
-    → HasFirstFault text right → left ≡ right
-one_fault text left right a b =
-    same_Err {A = List Piece} left right (sym (fault_is text left a) ∙ fault_is text right b)
-
 -- the line of a piece is that of no other
 pub one_piece : (left right : Piece) → IsLine left → IsLine right
     → data_line left ≡ data_line right → left ≡ right

@@ -1,27 +1,31 @@
 -- Names that are added.
 use Rattle.listings.proofs.{Prelude.{◌≡◌, inl, inr, ℕ, zero, suc, ◌-◌, ◌<◌, ◌≤◌, Bool, true, false, cond, List, [], ◌∷◌, ◌++◌, Contains, drop, filter, flat_map, get_or, length, take, map, filter_map, zip, slice_get, Option, Some, None, option_map, refl, ap, sym, subst, ◌∙◌, arith, append-nil, append_assoc, map-append, Contains-append_left, Contains-append_right, none-some, same_Some, slice_get-map, AllByRecursion, cons_option, option_to_list, Symbol, Public, Routine, TypedModule, TypedProcedure, object_view, procedure_view, constant_bytes, CodeObject, CodeProcedure, BeginsInCode, code_address, is_private, names_in_code, object_symbol, procedure_symbol, public_place, routine_names, symbol_of, NameText, Declared, Named, ModuleView, AddsNames, AddsNamesSoFar, HasNames, IsNameAmong, IsNameIn, code_size, object_names, public_names, typed_of, named_view, named_with, routine_name, text_of_name}, Adding.{split_first}}
+use Rattle.listings.proofs.{Prelude.{object_of, take_all}, ProcedureCodes.{private_begins, routine_in_code}}
+use Rattle.std.proofs.lemmas.Option.{get_or_from_slice_get, slice_get_within}
+use Rattle.std.specs.Prelude.{◌+◌}
+use Rattle.codegen8080.specs.declared.marking.CodePart.TheVariants as parts
+use Rattle.tool.specs.declared.marking.SourceMark.{SourceMark}
+use Rattle.listings.specs.declared.named.NameText.TheVariants.{Routine as of_routine}
+use Rattle.listings.specs.internal.Marks.{begins_in, lies_within}
 use Rattle.runtime8080.specs.declared.routine.Routine.TheVariants as routines
-
--- what stands at a place is an element
-pub contains_at : {A : Type 0} (xs : List A) (n : ℕ) (x : A) → slice_get xs n ≡ Some x → Contains xs x
-contains_at [] n x e = absurd (none-some x e)
-contains_at (y ∷ xs) zero x e = (zero, omega arith, same_Some y x e)
-contains_at (y ∷ xs) (suc n) x e =
-    let found = contains_at xs n x e in (suc found.0, omega (arith, found.1), found.2)
 
 -- the name of a procedure
 pub name_contained : (procedures : List TypedProcedure) (procedure : TypedProcedure) (number : ℕ)
     → slice_get procedures number ≡ Some procedure
     → Contains (map (λ (p : TypedProcedure). p.name) procedures) procedure.name
 name_contained procedures procedure number e =
-    contains_at (map (λ (p : TypedProcedure). p.name) procedures) number procedure.name
-    (slice_get-map (λ (p : TypedProcedure). p.name) procedures number
-    ∙ ap (option_map (λ (p : TypedProcedure). p.name)) e)
+    let found : slice_get (map (λ (p : TypedProcedure). p.name) procedures) number ≡ Some procedure.name =
+    slice_get-map (λ (p : TypedProcedure). p.name) procedures number
+    ∙ ap (option_map (λ (p : TypedProcedure). p.name)) e in (
+      number,
+      slice_get_within (map (λ (p : TypedProcedure). p.name) procedures) number procedure.name found,
+      get_or_from_slice_get (map (λ (p : TypedProcedure). p.name) procedures) number procedure.name procedure.name found,
+    )
 
 -- that of a private one
 kept_first : (p : TypedProcedure) (others : List TypedProcedure) (t : Bool) → t ≡ true
     → Contains (cond t (p ∷ others) others) p
-kept_first p others true e = contains_at (p ∷ others) zero p refl
+kept_first p others true e = (zero, omega arith, refl)
 kept_first p others false e = cc
 
 kept_later : (first p : TypedProcedure) (others : List TypedProcedure) (t : Bool) → Contains others p
@@ -64,15 +68,15 @@ private_named typed procedure number known e is holds =
 
 -- the name of a routine
 routine_found : (routine : Routine) → Contains routine_names (routine_name routine)
-routine_found routines.Multiply = contains_at routine_names 0 _ refl
-routine_found routines.Divide = contains_at routine_names 1 _ refl
-routine_found routines.ShiftLeftByte = contains_at routine_names 2 _ refl
-routine_found routines.ShiftRightByte = contains_at routine_names 3 _ refl
-routine_found routines.ShiftLeftAddress = contains_at routine_names 4 _ refl
-routine_found routines.ShiftRightAddress = contains_at routine_names 5 _ refl
-routine_found routines.RotateLeft = contains_at routine_names 6 _ refl
-routine_found routines.RotateRight = contains_at routine_names 7 _ refl
-routine_found routines.Move = contains_at routine_names 8 _ refl
+routine_found routines.Multiply = (0, omega arith, refl)
+routine_found routines.Divide = (1, omega arith, refl)
+routine_found routines.ShiftLeftByte = (2, omega arith, refl)
+routine_found routines.ShiftRightByte = (3, omega arith, refl)
+routine_found routines.ShiftLeftAddress = (4, omega arith, refl)
+routine_found routines.ShiftRightAddress = (5, omega arith, refl)
+routine_found routines.RotateLeft = (6, omega arith, refl)
+routine_found routines.RotateRight = (7, omega arith, refl)
+routine_found routines.Move = (8, omega arith, refl)
 
 pub routine_named : (typed : TypedModule) (routine : Routine)
     → Contains (names_in_code typed) (routine_name routine)
@@ -209,6 +213,72 @@ part_named view text place address old new name in_code is added = record {
   new_is = added;
   each = (record { name = name; place = place; in_code = in_code; address = is }, tt);
 }
+
+-- the name of a routine, and that of a private procedure
+pub routine_added : (view : ModuleView) (mark : SourceMark) (routine : Routine) (address : ℕ) (old new : List Named)
+    → mark.part ≡ parts.Routine routine
+    → lies_within (constant_bytes (typed_of view)) (code_size view) mark ≡ true
+    → address ≡ code_address view.code_base mark.place → new ≡ old ++ named_with address (of_routine routine) ∷ []
+    → AddsNames (IsNameIn view) old new
+routine_added view mark routine address old new part within is added =
+    part_named view (of_routine routine) mark.place address old new (routine_named (typed_of view) routine)
+    (routine_in_code (constant_bytes (typed_of view)) (code_size view) mark routine part within) is added
+
+pub private_added : (view : ModuleView) (procedure : TypedProcedure) (place address : ℕ) (private : Bool)
+    (old new : List Named)
+    → private ≡ is_private procedure.visibility → private ≡ true
+    → Contains (names_in_code (typed_of view)) procedure.name
+    → begins_in (constant_bytes (typed_of view)) (object_of view) procedure place ≡ true
+    → address ≡ code_address view.code_base place → new ≡ old ++ named_with address (Declared procedure.name) ∷ []
+    → AddsNames (IsNameIn view) old new
+private_added view procedure place address private old new is holds name begins at added =
+    part_named view (Declared procedure.name) place address old new name
+    (private_begins (constant_bytes (typed_of view)) (object_of view) procedure place (sym is ∙ holds) begins) at added
+
+-- the private procedures among those that are left
+abbrev pub PrivatesAre : (typed : TypedModule) → List TypedProcedure → Type 0
+PrivatesAre typed [] = Unit {0}
+PrivatesAre typed (procedure ∷ procedures) =
+    (is_private procedure.visibility ≡ true → Contains (names_in_code typed) procedure.name)
+    × PrivatesAre typed procedures
+
+privates_from : (typed : TypedModule) (number : ℕ) (left : List TypedProcedure)
+    → ((index : ℕ) (procedure : TypedProcedure) → slice_get left index ≡ Some procedure
+    → slice_get typed.procedures (number + index) ≡ Some procedure)
+    → PrivatesAre typed left
+privates_from typed number [] there = tt
+privates_from typed number (procedure ∷ procedures) there = (
+  λ private. private_named typed procedure (number + 0) true (there 0 procedure refl) (sym private) refl,
+  privates_from typed (suc number) procedures
+      (λ index one at.
+      let same : number + suc index ≡ suc number + index = omega arith in
+      subst (λ (n : ℕ). slice_get typed.procedures n ≡ Some one) same (there (suc index) one at)),
+)
+
+pub all_privates : (typed : TypedModule) → PrivatesAre typed typed.procedures
+all_privates typed =
+    privates_from typed 0 typed.procedures
+    (λ index procedure at.
+    let same : index ≡ 0 + index = omega arith in
+    subst (λ (n : ℕ). slice_get typed.procedures n ≡ Some procedure) same at)
+
+pub privates_first : (typed : TypedModule) (left : List CodeProcedure) (procedure d : CodeProcedure)
+    → 1 ≤ length left → procedure ≡ get_or left 0 d → PrivatesAre typed (map procedure_view left)
+    → is_private (procedure_view procedure).visibility ≡ true
+    → Contains (names_in_code typed) (procedure_view procedure).name
+privates_first typed [] procedure d some is are = absurd (omega (arith, some))
+privates_first typed (first ∷ others) procedure d some is are =
+    subst (λ (one : CodeProcedure). is_private (procedure_view one).visibility ≡ true
+    → Contains (names_in_code typed) (procedure_view one).name) (sym is) are.0
+
+pub privates_later : (typed : TypedModule) (left : List CodeProcedure) → 1 ≤ length left
+    → PrivatesAre typed (map procedure_view left)
+    → PrivatesAre typed (map procedure_view (take (length left - 1) (drop 1 left)))
+privates_later typed [] some are = absurd (omega (arith, some))
+privates_later typed (first ∷ others) some are =
+    let one : length others ≤ length (first ∷ others) - 1 = omega arith in
+    subst (λ (procedures : List CodeProcedure). PrivatesAre typed (map procedure_view procedures))
+    (sym (take_all (length (first ∷ others) - 1) others one)) are.1
 
 weaker : (P Q : Symbol → Type 0) (names : List Symbol) → ((symbol : Symbol) → P symbol → Q symbol)
     → AllByRecursion P names → AllByRecursion Q names

@@ -1,6 +1,10 @@
 -- The symbols of a program.
 use Rattle.listings.proofs.{Prelude.{◌≡◌, inl, inr, ℕ, ◌+◌, ◌-◌, ◌<◌, ◌≤◌, Bool, true, false, cond, List, [], ◌∷◌, ◌++◌, drop, flat_map, get_or, length, nil_from_length, map, slice_get, take, zip, codes, min, Option, Some, None, refl, ap, sym, subst, ◌∙◌, arith, append-nil, append_assoc, All-from_recursion, AllPairs-cons, none-some, AllByRecursion, AllPairs, IfSome, ModulePlacement, PieceKind, kind_of, address_digits, range_line, ObjectModule, Construction, program_modules, size_of_object, TypedModule, TypedObject, TypedProcedure, object_view, procedure_view, constant_bytes, CodeObject, CodeProcedure, code_address, AreCodeOf, AreOwnersOf, HasSymbols, HaveSymbols, IsCodeOf, IsOwnerBy, IsOwnerOf, SymbolsOfProgram, is_own, line_if, next_symbols, no_symbols, object_line, procedure_line, procedure_with, source_line, ModuleView, Adds, IsBegun, AreViews, Follow, code_size, data_size, object_of, placed_of, text_of, typed_of, HasLine, HasObjectLines, HasProcedureLines, HasSourceLines, HasSymbolsOf, HaveSymbolsOf, IsPlaceIn, Rises, has_kind, line_of, lines_of, own_of, owner_text, procedure_names}, Adding.{text_ended, gone_on, split_first}, NamesAdded.{name_contained}}
-use Rattle.listings.specs.internal.Symbols.{no_view}
+use Rattle.std.specs.Prelude.{replicate, zero, suc}
+use Rattle.std.proofs.Common.{set}
+use Rattle.listings.proofs.ProcedureCodes.{none_left}
+use Rattle.listings.specs.internal.Marks.{begin_in}
+use Rattle.listings.specs.internal.Symbols.{ArePlacesIn, KeepsPlaces, no_view}
 use Rattle.listings.specs.internal.Symbols.{next_view}
 use Rattle.std.specs.Fmt.{decimal}
 
@@ -132,6 +136,14 @@ procedures_ended view all left old now so_far none =
     (subst (λ (procedures : List CodeProcedure). HasProcedureLines view (map procedure_view procedures) [])
     (sym (nil_from_length left (omega (arith, none))))
     (record { places = []; each = tt; text_is = refl }))
+
+pub procedures_cut : (view : ModuleView) (all : List TypedProcedure) (left : List CodeProcedure) (places : List ℕ)
+    (old now : List ℕ) → IsBegun (HasProcedureLines view) all (map procedure_view left) old now
+    → begin_in (constant_bytes (typed_of view)) (object_of view) (map procedure_view left) places ≡ true
+    → length places < 1 → Adds (HasProcedureLines view all) old now
+procedures_cut view all left places old now so_far begin none =
+    procedures_ended view all left old now so_far
+    (none_left (constant_bytes (typed_of view)) (object_of view) left places none begin)
 
 -- owners
 pub no_owner : (typed : TypedModule) (owner : Option (List ℕ)) → owner ≡ None
@@ -304,6 +316,30 @@ line_added view number place old new in_code added = record {
   holds = record { place = Some place; in_code = in_code; text_is = refl };
   added = added;
 }
+
+-- places of lines
+pub no_places : (view : ModuleView) (count : ℕ) → ArePlacesIn view (replicate count None)
+no_places view zero = tt
+no_places view (suc count) = (tt, no_places view count)
+
+pub place_kept : (place index : ℕ) (old new : List (Option ℕ)) → new ≡ set old index (Some place)
+    → KeepsPlaces place old new
+place_kept place index old new is view here are =
+    subst (ArePlacesIn view) (sym is) (kept old index are)
+  where
+    kept : (list : List (Option ℕ)) (at : ℕ) → ArePlacesIn view list → ArePlacesIn view (set list at (Some place))
+    kept [] at these = these
+    kept (one ∷ others) zero these = (here, these.1)
+    kept (one ∷ others) (suc at) these = (these.0, kept others at these.1)
+
+pub same_places : (place : ℕ) (list : List (Option ℕ)) → KeepsPlaces place list list
+same_places place list view here are = are
+
+pub place_there : (view : ModuleView) (list : List (Option ℕ)) (index : ℕ) (d : Option ℕ) → ArePlacesIn view list
+    → index < length list → IfSome (get_or list index d) (IsPlaceIn view)
+place_there view [] index d are below = absurd (omega (arith, below))
+place_there view (one ∷ others) zero d are below = are.0
+place_there view (one ∷ others) (suc index) d are below = place_there view others index d are.1 (omega (arith, below))
 
 pub no_line_added : (view : ModuleView) (number : ℕ) (lines : List ℕ) → Adds (HasLine view number) lines lines
 no_line_added view number lines =

@@ -1,8 +1,12 @@
 -- The modules of a program, one after another.
-use Rattle.std.{specs.Prelude.{◌*◌}, proofs.lemmas.{List.{get_or-map}, Option.{get_or_from_slice_get, slice_get_within}}}
+use Rattle.std.{specs.Prelude.{◌*◌, option_map}, proofs.lemmas.{List.{get_or-map}, Option.{get_or_from_slice_get, slice_get-get_or, slice_get-map, slice_get_read, slice_get_within}}}
 use Rattle.typed_trees.specs.TypedTrees.{TypedModule}
+use Rattle.typed_trees.specs.declared.module.Typed.{Typed}
+use Rattle.typed_trees.specs.Views.{module_view}
+use Rattle.placing.specs.Views.{module_placement_view}
+use Rattle.placing.specs.declared.placement.ModulePlacement.{ModulePlacement as CodePlacement}
 use Rattle.sources.specs.{Programs.{AreSourcesOf, IsProgramOf}, Reading.{IsSource}}
-use Rattle.listings.proofs.Prelude.{◌≡◌, ℕ, zero, suc, ◌+◌, ◌<◌, ◌≤◌, List, [], ◌∷◌, ◌++◌, length, map, get_or, slice_get, take, Some, refl, ap, sym, subst, ◌∙◌, arith, All, AllByRecursion, All-from_recursion, length-map, take_all, none-some, same_Some, program_modules, texts_of, Source, Construction, IsConstruction, ModuleView, AreFirstViews, AreViews, Follow, IsViewAt, code_size, data_size, object_of, placed_of, text_of, typed_of, map_push}
+use Rattle.listings.proofs.Prelude.{◌≡◌, ℕ, zero, suc, ◌+◌, ◌<◌, ◌≤◌, List, [], ◌∷◌, ◌++◌, length, map, get_or, slice_get, take, Some, refl, ap, sym, subst, ◌∙◌, arith, All, AllByRecursion, All-from_recursion, length-map, take_all, none-some, same_Some, program_modules, texts_of, Source, Construction, IsConstruction, ModuleView, ObjectModule, AreFirstViews, AreViews, Follow, IsViewAt, code_size, data_size, object_of, placed_of, text_of, typed_of, map_push}
 
 -- the first elements of a list, and the one after them
 taken : {A : Type 0} (xs : List A) (n : ℕ) (x : A) → slice_get xs n ≡ Some x
@@ -142,3 +146,40 @@ as_many sources built program construction =
     sym (length-map sources (λ (s : Source). s.text.now))
     ∙ same_count (texts_of sources) (program_modules built.program) program.sources
     ∙ sym construction.objects
+
+-- what lists have at a number, where they are views of the items of others
+viewed_at : {A B : Type 0} (f : A → B) (list : List A) (all : List B) (number : ℕ) (one : A)
+    → map f list ≡ all → number < length all → one ≡ get_or list number one → slice_get all number ≡ Some (f one)
+viewed_at f list all number one same below is =
+    let within : number < length list = omega (arith, length-map list f, ap length same, below) in
+    ap (λ (items : List _). slice_get items number) (sym same) ∙ slice_get-map f list number
+    ∙ ap (option_map f) (slice_get_read list (length list) number one refl within is)
+
+pub text_at : (sources : List Source) (number : ℕ) (d : Source) → number < length sources
+    → slice_get (texts_of sources) number ≡ Some (get_or sources number d).text.now
+text_at sources number d below =
+    slice_get-map (λ (source : Source). source.text.now) sources number
+    ∙ ap (option_map (λ (source : Source). source.text.now)) (slice_get-get_or sources number d below)
+
+pub module_at : (built : Construction) (list : List Typed) (number : ℕ) (one : Typed) → IsConstruction built
+    → map module_view list ≡ program_modules built.program → number < length built.objects
+    → one ≡ get_or list number one → slice_get (program_modules built.program) number ≡ Some (module_view one)
+module_at built list number one construction same below is =
+    viewed_at module_view list (program_modules built.program) number one same
+    (omega (arith, below, construction.objects)) is
+
+pub object_at : (built : Construction) (list : List ObjectModule) (number : ℕ) (one : ObjectModule)
+    → list ≡ built.objects → number < length built.objects → one ≡ get_or list number one
+    → slice_get built.objects number ≡ Some one
+object_at built list number one same below is =
+    let within : number < length list = omega (arith, below, ap length same) in
+    ap (λ (items : List ObjectModule). slice_get items number) (sym same)
+    ∙ slice_get_read list (length list) number one refl within is
+
+pub placed_at : (built : Construction) (list : List CodePlacement) (number : ℕ) (one : CodePlacement)
+    → IsConstruction built → map module_placement_view list ≡ built.placement.modules
+    → number < length built.objects → one ≡ get_or list number one
+    → slice_get built.placement.modules number ≡ Some (module_placement_view one)
+placed_at built list number one construction same below is =
+    viewed_at module_placement_view list built.placement.modules number one same
+    (omega (arith, below, construction.objects, construction.lawful.for_each_module)) is

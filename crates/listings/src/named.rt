@@ -1,20 +1,22 @@
 //! Names that stand for addresses.
 
-ghost use Rattle.std.specs.Prelude.{◌≡◌, ◌++◌, ◌∷◌, [], Contains, IfOk, IfSome, OnOk, map, option_map, option_to_list};
+ghost use Rattle.std.specs.Prelude.{◌≡◌, ◌++◌, ◌∷◌, [], Contains, IfOk, OnOk, map, option_map, option_to_list, true};
 ghost use Rattle.typed_trees.specs.Views.{module_view, object_view, procedure_view};
 ghost use Rattle.listings.specs.Names.{is_private, module_symbols, names_in_code, object_symbol, procedure_symbol, public_symbols, symbol_of};
-ghost use Rattle.listings.specs.internal.Programs.{AddsNames, HasNames, IsNameAmong, IsNameIn, object_names, object_of, pair_of, public_names, typed_of};
+ghost use Rattle.typed_trees.specs.Weight.{constant_bytes};
+ghost use Rattle.listings.specs.internal.Marks.{begins_in, lies_within};
+ghost use Rattle.listings.specs.internal.Programs.{code_size, AddsNames, HasNames, IsNameAmong, IsNameIn, object_names, object_of, pair_of, public_names, typed_of};
 ghost use Rattle.listings.specs.internal.Views.{name_at, named_view, routine_name, text_of_name};
 
-use crate::code_places::{address_of, expect_begin};
-use crate::procedures::{procedure_at, public_place};
+use crate::code_places::address_of;
+use crate::procedures::public_place;
 use crate::view::ModuleView;
 use codegen8080::CodePart;
 use object_modules::Name;
 use runtime8080::Routine;
 use std::alloc::{AllocError, Global};
 use tool::SourceMark;
-use typed_trees::{Home, Typed, TypedObject, TypedProcedure, Visibility};
+use typed_trees::{Home, TypedObject, TypedProcedure, Visibility};
 
 /// What a name is written as: a name of the source, or that of a routine, which has small letters.
 #[derive(Clone, Copy)]
@@ -72,29 +74,6 @@ fn is_private(visibility: Visibility) -> bool
     }
 }
 
-// The name of the procedure of a number, if it is neither PUBLIC nor EXTERNAL.
-fn private_name(typed: &Typed, number: u32) -> Option<NameText>
-    ensures { IfSome result (λ text. Contains (names_in_code (module_view typed.now)) (text_of_name text)) }
-{
-    let procedure = procedure_at(typed, number as usize)?;
-    if is_private(procedure.visibility) {
-        Some(NameText::Declared(procedure.name))
-    } else {
-        None
-    }
-}
-
-// The name of a part of code: of a procedure that is neither PUBLIC nor EXTERNAL, or of a routine.
-fn name_of_part(typed: &Typed, part: CodePart) -> Option<NameText>
-    ensures { IfSome result (λ text. Contains (names_in_code (module_view typed.now)) (text_of_name text)) }
-{
-    match part {
-        CodePart::Procedure(number) => private_name(typed, number),
-        CodePart::Routine(routine) => Some(NameText::Routine(routine)),
-        CodePart::Main | CodePart::Statement(_) => None,
-    }
-}
-
 // Adds a name that the source declares.
 #[tactic(auto, using(crate::proofs::NamesAdded::name_pushed))]
 fn push_name(names: &mut Vec<Named>, address: u16, name: Name) -> Result<(), AllocError>
@@ -106,30 +85,84 @@ fn push_name(names: &mut Vec<Named>, address: u16, name: Name) -> Result<(), All
     Ok(())
 }
 
-// Adds the name of a part of the code of a module, if it is such a procedure or a routine.
-#[tactic(auto, using(crate::proofs::NamesAdded::no_names, crate::proofs::NamesAdded::part_named))]
-fn put_part(names: &mut Vec<Named>, view: &ModuleView, mark: SourceMark) -> Result<(), AllocError>
+// Adds the name of a routine, if a part of the code of a module is one.
+#[tactic(auto, using(crate::proofs::NamesAdded::no_names, crate::proofs::NamesAdded::routine_added))]
+fn put_routine(
+    names: &mut Vec<Named>,
+    view: &ModuleView,
+    mark: SourceMark,
+) -> Result<(), AllocError>
+    requires within { lies_within (constant_bytes (typed_of view.now)) (code_size view.now) mark ≡ true }
     ensures { OnOk result (AddsNames (IsNameIn view.now) names.old.items names.new.items) }
 {
-    let Some(text) = name_of_part(view.typed, mark.part) else {
+    let CodePart::Routine(routine) = mark.part else {
         return Ok(());
     };
-    let place = mark.place as u32;
-    expect_begin(view, place)?;
-    let address = address_of(view.code_base, place);
+    let address = address_of(view.code_base, mark.place as u32);
+    let text = NameText::Routine(routine);
     names.push(Named { address, text })?;
     Ok(())
 }
 
-// Adds the names of such procedures and of the routines of a module.
-#[tactic(auto, using(crate::proofs::NamesAdded::no_names, crate::proofs::NamesAdded::names_joined))]
-fn put_parts(names: &mut Vec<Named>, view: &ModuleView) -> Result<(), AllocError>
+// Adds the names of the routines of a module.
+#[tactic(auto, using(crate::proofs::NamesAdded::no_names, crate::proofs::NamesAdded::names_joined, crate::proofs::ProcedureCodes::mark_within))]
+fn put_routines(names: &mut Vec<Named>, view: &ModuleView) -> Result<(), AllocError>
     ensures { OnOk result (AddsNames (IsNameIn view.now) names.old.items names.new.items) }
 {
     for mark in view.marks.marks.iter() {
-        put_part(names, view, *mark)?;
+        put_routine(names, view, *mark)?;
     }
     Ok(())
+}
+
+// Adds the name of a procedure that begins at a place, if it is neither PUBLIC nor EXTERNAL.
+#[tactic(auto, using(crate::proofs::NamesAdded::no_names, crate::proofs::NamesAdded::private_added))]
+fn put_private(
+    names: &mut Vec<Named>,
+    view: &ModuleView,
+    procedure: &TypedProcedure,
+    place: u16,
+) -> Result<(), AllocError>
+    requires named { is_private (procedure_view procedure.now).visibility ≡ true
+        → Contains (names_in_code (typed_of view.now)) (procedure_view procedure.now).name }
+    requires begins { begins_in (constant_bytes (typed_of view.now)) (object_of view.now)
+        (procedure_view procedure.now) place ≡ true }
+    ensures { OnOk result (AddsNames (IsNameIn view.now) names.old.items names.new.items) }
+{
+    if !is_private(procedure.visibility) {
+        return Ok(());
+    }
+    let address = address_of(view.code_base, place as u32);
+    let text = NameText::Declared(procedure.name);
+    names.push(Named { address, text })?;
+    Ok(())
+}
+
+// Adds the names of such procedures of a module.
+#[tactic(auto, using(crate::proofs::NamesAdded::no_names, crate::proofs::NamesAdded::names_joined, crate::proofs::NamesAdded::all_privates, crate::proofs::NamesAdded::privates_first, crate::proofs::NamesAdded::privates_later, crate::proofs::ProcedureCodes::begins_first, crate::proofs::ProcedureCodes::begin_later))]
+fn put_privates(names: &mut Vec<Named>, view: &ModuleView) -> Result<(), AllocError>
+    ensures { OnOk result (AddsNames (IsNameIn view.now) names.old.items names.new.items) }
+{
+    let mut rest = view.typed.procedures.as_slice();
+    let mut places = view.procedures;
+    while let [procedure, more @ ..] = rest {
+        let [place, more_places @ ..] = places else {
+            return Ok(());
+        };
+        put_private(names, view, procedure, *place)?;
+        rest = more;
+        places = more_places;
+    }
+    Ok(())
+}
+
+// Adds the names of such procedures and of the routines of a module.
+#[tactic(auto, using(crate::proofs::NamesAdded::names_joined))]
+fn put_parts(names: &mut Vec<Named>, view: &ModuleView) -> Result<(), AllocError>
+    ensures { OnOk result (AddsNames (IsNameIn view.now) names.old.items names.new.items) }
+{
+    put_privates(names, view)?;
+    put_routines(names, view)
 }
 
 // Adds the names of such procedures and of the routines of modules.

@@ -1,22 +1,19 @@
 //! The procedures of a module: where their code begins, and which objects are their parameters.
 
-ghost use Rattle.std.specs.Prelude.{◌≡◌, ◌<◌, ◌≤◌, ◌==◌, IfOk, IfSome, Some, map, option_map, slice_get};
+ghost use Rattle.std.specs.Prelude.{◌≡◌, ◌<◌, ◌≤◌, ◌==◌, IfSome, Some, map, option_map, slice_get, true};
 ghost use Rattle.std.specs.List.{list_any};
 ghost use Rattle.std.specs.Str.{bytes_eq};
 ghost use Rattle.object_modules.specs.internal.Views.{owned_public_view};
 ghost use Rattle.typed_trees.specs.Views.{module_view, procedure_view};
 ghost use Rattle.typed_trees.specs.Weight.{constant_bytes};
 ghost use Rattle.listings.specs.Names.{code_place, is_code, public_place};
-ghost use Rattle.listings.specs.Symbols.{IsCodeOf, procedure_with};
-ghost use Rattle.listings.specs.internal.Marks.{LieWithin};
-ghost use Rattle.listings.specs.internal.Programs.{object_of, typed_of};
+ghost use Rattle.listings.specs.Symbols.{IsCodeOf, is_own, procedure_with};
+ghost use Rattle.listings.specs.internal.Marks.{begins_in};
+ghost use Rattle.listings.specs.internal.Programs.{code_size, object_of, typed_of};
 
-use crate::code_places::expect_begin;
 use crate::view::ModuleView;
 use codegen8080::CodePart;
 use object_modules::{Name, ObjectModule, OwnedPublic, Segment};
-use std::alloc::AllocError;
-use tool::SourceMark;
 use typed_trees::{Typed, TypedProcedure, Visibility};
 
 /// The procedure of a number, if there is one.
@@ -69,57 +66,25 @@ pub(crate) fn public_place(object: &ObjectModule, procedure: &TypedProcedure) ->
     }
 }
 
-// Whether a part is the beginning of the procedure of this number.
-fn begins(part: CodePart, number: u32) -> bool {
-    match part {
-        CodePart::Procedure(begun) => begun == number,
-        CodePart::Main | CodePart::Statement(_) | CodePart::Routine(_) => false,
-    }
-}
-
-// Where the marks of a module say that the procedure of this number begins.
-fn marked_place(marks: &[SourceMark], number: u32) -> Result<u32, AllocError> {
-    for mark in marks {
-        if begins(mark.part, number) {
-            return Ok(mark.place as u32);
-        }
-    }
-    // The marks of the module's own source have each of its procedures: no clause of `generate` says so.
-    Err(AllocError)
-}
-
 // Whether a part belongs to what was begun before it.
 fn goes_on(part: CodePart) -> bool {
     matches!(part, CodePart::Statement(_))
 }
 
-// Where code that begins at a place ends: where another procedure or a routine begins, or where all code ends.
+// Where code that begins at a place of a module ends: where another procedure or a routine begins, or where all code ends.
 #[tactic(auto, using(crate::proofs::ProcedureCodes::first_within, crate::proofs::ProcedureCodes::others_within))]
-fn end_of(marks: &[SourceMark], place: u32, length: u32) -> u32
-    requires marked { LieWithin length marks.now }
-    ensures later { place < length → place < result }
-    ensures within { result ≤ length }
+fn end_of(view: &ModuleView, place: u32) -> u32
+    ensures later { place < code_size view.now → place < result }
+    ensures within { result ≤ code_size view.now }
 {
-    let mut rest = marks;
+    let mut rest = view.marks.marks.as_slice();
     while let [mark, more @ ..] = rest {
         if place < mark.place as u32 && !goes_on(mark.part) {
             return mark.place as u32;
         }
         rest = more;
     }
-    length
-}
-
-// Where the code of a procedure begins, by its number: where the object module says it, if the procedure is PUBLIC.
-#[tactic(auto, using(crate::proofs::ProcedureCodes::begun_there, crate::proofs::ProcedureCodes::begun_anywhere))]
-fn begin_of(view: &ModuleView, procedure: &TypedProcedure, number: u32) -> Result<u32, AllocError>
-    ensures { IfOk result (λ place. IfSome
-        (public_place (object_of view.now).publics (procedure_view procedure.now)) (λ begun. begun ≡ place)) }
-{
-    match public_place(view.object, procedure) {
-        Some(place) => Ok(place as u32),
-        None => marked_place(view.marks.marks.as_slice(), number),
-    }
+    view.object.length(Segment::Code) as u32
 }
 
 /// The code of a procedure: its offset from the start of the code segment, and how many bytes it has.
@@ -129,24 +94,21 @@ pub(crate) struct ProcedureCode {
     pub(crate) size: u32,
 }
 
-/// The code of the procedure of a number.
+/// The code of a procedure that begins at a place.
 #[tactic(auto, using(crate::proofs::ProcedureCodes::code_between))]
-pub(crate) fn code_of(
-    view: &ModuleView,
-    procedure: &TypedProcedure,
-    number: u32,
-) -> Result<ProcedureCode, AllocError>
-    ensures { IfOk result (λ code. IsCodeOf (constant_bytes (typed_of view.now)) (object_of view.now)
-        (procedure_view procedure.now) code.place code.size) }
+pub(crate) fn code_of(view: &ModuleView, procedure: &TypedProcedure, place: u16) -> ProcedureCode
+    requires own { is_own (procedure_view procedure.now).visibility ≡ true }
+    requires begins { begins_in (constant_bytes (typed_of view.now)) (object_of view.now)
+        (procedure_view procedure.now) place ≡ true }
+    ensures { IsCodeOf (constant_bytes (typed_of view.now)) (object_of view.now)
+        (procedure_view procedure.now) result.place result.size }
 {
-    let length = view.object.length(Segment::Code) as u32;
-    let place = begin_of(view, procedure, number)?;
-    let end = end_of(view.marks.marks.as_slice(), place, length);
-    expect_begin(view, place)?;
-    Ok(ProcedureCode {
+    let place = place as u32;
+    let end = end_of(view, place);
+    ProcedureCode {
         place,
         size: end.saturating_sub(place),
-    })
+    }
 }
 
 // Whether an object is a parameter of a procedure.

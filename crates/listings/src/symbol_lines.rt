@@ -1,17 +1,19 @@
 //! The symbols of a program: its procedures, its variables and the lines of its code, with their addresses.
 
-ghost use Rattle.std.specs.Prelude.{◌≡◌, ◌+◌, ◌≤◌, ◌++◌, ◌∷◌, [], IfOk, None, OnOk, codes, false, length};
+ghost use Rattle.std.specs.Prelude.{◌≡◌, ◌+◌, ◌≤◌, ◌++◌, ◌∷◌, [], IfOk, IfSome, None, OnOk, codes, false, length, true};
 ghost use Rattle.layout.specs.Placement.{kind_of};
 ghost use Rattle.object_commands.specs.Placing.{range_line};
 ghost use Rattle.typed_trees.specs.Views.{object_view, procedure_view};
+ghost use Rattle.typed_trees.specs.Weight.{constant_bytes};
 ghost use Rattle.sources.specs.Programs.{IsProgramOf, program_modules, texts_of};
 ghost use Rattle.sources.specs.declared.sources.TheConstants.{MOST_SOURCES};
 ghost use Rattle.listings.specs.Symbols.{IsOwnerBy, IsOwnerOf, SymbolsOfProgram, is_own, object_line, source_line};
 ghost use Rattle.listings.specs.internal.Adding.{Adds};
-ghost use Rattle.listings.specs.internal.Programs.{typed_of};
-ghost use Rattle.listings.specs.internal.Symbols.{HasLine, HasObjectLines, HasProcedureLines, HasSourceLines, HasSymbolsOf, HaveSymbolsOf, has_kind, owner_text, procedure_names};
+ghost use Rattle.listings.specs.internal.Marks.{begins_in};
+ghost use Rattle.listings.specs.internal.Programs.{object_of, typed_of};
+ghost use Rattle.listings.specs.internal.Symbols.{ArePlacesIn, IsPlaceIn, KeepsPlaces, HasLine, HasObjectLines, HasProcedureLines, HasSourceLines, HasSymbolsOf, HaveSymbolsOf, has_kind, owner_text, procedure_names};
 
-use crate::code_places::{address_of, expect_in_code};
+use crate::code_places::address_of;
 use crate::places::{put_address, put_range};
 use crate::procedures::{code_of, procedure_at, procedure_with};
 use crate::text_lines::line_count;
@@ -21,7 +23,7 @@ use object_modules::Name;
 use std::alloc::{AllocError, Global};
 use std::io;
 use std::io::Write;
-use tool::{Built, Source, SourceMark};
+use tool::{Built, Source};
 use trees::next_number;
 use typed_trees::{Home, TypedObject, TypedProcedure, Visibility};
 
@@ -58,8 +60,10 @@ fn put_procedure(
     lines: &mut Vec<u8>,
     view: &ModuleView,
     procedure: &TypedProcedure,
-    number: u32,
+    place: u16,
 ) -> io::Result<()>
+    requires begins { begins_in (constant_bytes (typed_of view.now)) (object_of view.now)
+        (procedure_view procedure.now) place ≡ true }
     ensures { OnOk result
         (Adds (HasProcedureLines view.now (procedure_view procedure.now ∷ []))
         lines.old.items lines.new.items) }
@@ -67,7 +71,7 @@ fn put_procedure(
     if !is_own(procedure.visibility) {
         return Ok(());
     }
-    let code = code_of(view, procedure, number)?;
+    let code = code_of(view, procedure, place);
     let address = address_of(view.code_base, code.place);
     put_named(
         lines,
@@ -80,17 +84,20 @@ fn put_procedure(
 }
 
 // Adds the lines of the procedures of a module.
-#[tactic(auto, using(crate::proofs::Adding::text_begun, crate::proofs::SymbolTexts::procedure_next, crate::proofs::SymbolTexts::procedures_ended))]
+#[tactic(auto, using(crate::proofs::Adding::text_begun, crate::proofs::SymbolTexts::procedure_next, crate::proofs::SymbolTexts::procedures_ended, crate::proofs::SymbolTexts::procedures_cut, crate::proofs::ProcedureCodes::begins_first, crate::proofs::ProcedureCodes::begin_later))]
 fn put_procedures(lines: &mut Vec<u8>, view: &ModuleView) -> io::Result<()>
     ensures { OnOk result (Adds (HasProcedureLines view.now (typed_of view.now).procedures)
         lines.old.items lines.new.items) }
 {
-    let mut number: u32 = 0;
     let mut rest = view.typed.procedures.as_slice();
+    let mut places = view.procedures;
     while let [procedure, more @ ..] = rest {
-        put_procedure(lines, view, procedure, number)?;
-        number = next_number(number)?;
+        let [place, more_places @ ..] = places else {
+            return Ok(());
+        };
+        put_procedure(lines, view, procedure, *place)?;
         rest = more;
+        places = more_places;
     }
     Ok(())
 }
@@ -189,8 +196,10 @@ fn put_objects(lines: &mut Vec<u8>, view: &ModuleView) -> io::Result<()>
 }
 
 // Notes the place of a mark for its line, unless that has one.
+#[tactic(auto, using(crate::proofs::SymbolTexts::place_kept, crate::proofs::SymbolTexts::same_places))]
 fn note(first: &mut Vec<Option<u32>>, line: u32, place: u32)
-    ensures { length first.new.items ≡ length first.old.items }
+    ensures length { length first.new.items ≡ length first.old.items }
+    ensures placed { KeepsPlaces place first.old.items first.new.items }
 {
     let index = line as usize;
     if let Some(None) = first.get(index) {
@@ -199,16 +208,14 @@ fn note(first: &mut Vec<Option<u32>>, line: u32, place: u32)
 }
 
 // The place of the first code of each line of a source of `count` lines, by the line's number. Code in no line has 0.
-fn first_code(
-    alloc: Global,
-    marks: &[SourceMark],
-    count: u32,
-) -> Result<Vec<Option<u32>>, AllocError>
-    ensures { IfOk result (λ first. length first.items ≡ count + 1) }
+#[tactic(auto, using(crate::proofs::SymbolTexts::no_places, crate::proofs::ProcedureCodes::mark_within, crate::proofs::ProcedureCodes::mark_in_code))]
+fn first_code(alloc: Global, view: &ModuleView, count: u32) -> Result<Vec<Option<u32>>, AllocError>
+    ensures length { IfOk result (λ first. length first.items ≡ count + 1) }
+    ensures placed { IfOk result (λ first. ArePlacesIn view.now first.items) }
 {
     let mut first = Vec::new(alloc);
     first.resize(count as usize + 1, None)?;
-    for mark in marks {
+    for mark in view.marks.marks.iter() {
         note(&mut first, mark.line, mark.place as u32);
     }
     Ok(first)
@@ -239,20 +246,19 @@ fn put_line_if(
     number: usize,
     place: Option<u32>,
 ) -> io::Result<()>
+    requires in_code { IfSome place (IsPlaceIn view.now) }
     ensures { OnOk result (Adds (HasLine view.now number) lines.old.items lines.new.items) }
 {
     match place {
-        Some(place) => {
-            expect_in_code(view, place)?;
-            put_source_line(lines, view, number, place)
-        }
+        Some(place) => put_source_line(lines, view, number, place),
         None => Ok(()),
     }
 }
 
 // Adds the lines of the lines of a module in which code begins.
-#[tactic(auto, using(crate::proofs::Adding::text_begun, crate::proofs::SymbolTexts::line_next, crate::proofs::SymbolTexts::lines_ended))]
+#[tactic(auto, using(crate::proofs::Adding::text_begun, crate::proofs::SymbolTexts::line_next, crate::proofs::SymbolTexts::lines_ended, crate::proofs::SymbolTexts::place_there))]
 fn put_lines(lines: &mut Vec<u8>, view: &ModuleView, first: &[Option<u32>]) -> io::Result<()>
+    requires placed { ArePlacesIn view.now first.now }
     ensures { OnOk result
         (Adds (HasSourceLines view.now (length first.now) 1) lines.old.items lines.new.items) }
 {
@@ -270,7 +276,7 @@ fn put_module(alloc: Global, lines: &mut Vec<u8>, view: &ModuleView) -> io::Resu
     put_procedures(lines, view)?;
     put_objects(lines, view)?;
     let count = line_count(view.text)?;
-    let first = first_code(alloc, view.marks.marks.as_slice(), count)?;
+    let first = first_code(alloc, view, count)?;
     put_lines(lines, view, first.as_slice())
 }
 

@@ -1,6 +1,7 @@
 //! A module of a program that was built.
 
-ghost use Rattle.listings.specs.internal.Marks.{LieInCode};
+ghost use Rattle.typed_trees.specs.Views.{module_view};
+ghost use Rattle.listings.specs.internal.Marks.{BeginIn, LieInCode};
 
 use object_modules::ObjectModule;
 use placing::ModulePlacement;
@@ -15,8 +16,11 @@ pub(crate) struct ModuleView<'s, 'b, 'm> {
     pub(crate) object: &'b ObjectModule,
     pub(crate) placed: &'b ModulePlacement,
     pub(crate) marks: &'m SourceMarks,
+    /// Where the code of each of its procedures begins, by its number.
+    pub(crate) procedures: &'b [u16],
     /// The addresses of its segments, 65536 at most.
     pub(crate) code_base: u32,
     pub(crate) data_base: u32,
-    pub(crate) ghost marks_lie_in_code: { LieInCode object.now marks.now },
+    pub(crate) ghost marks_lie_in_code: { LieInCode (module_view typed.now) object.now marks.now },
+    pub(crate) ghost procedures_begin: { BeginIn (module_view typed.now) object.now procedures.now },
 }

@@ -18,12 +18,13 @@ pub(crate) fn all_marks(
     sources: &[Source],
 ) -> Result<Vec<SourceMarks>, AllocError>
     requires program { IsProgramOf (texts_of sources.now) (program_modules built.now.program) }
-    ensures { IfOk result (λ all. AreMarksOf built.now.objects all.items) }
+    ensures { IfOk result
+        (λ all. AreMarksOf (program_modules built.now.program) built.now.objects all.items) }
 {
     let marks = built.marks();
     let mut all = Vec::new(alloc);
     for (number, source) in sources.iter().enumerate() {
-        all.push(marks_of(alloc, source.text, marks[number].as_slice())?)?;
+        all.push(marks_of(alloc, source.text, marks[number].parts.as_slice())?)?;
     }
     Ok(all)
 }
@@ -39,7 +40,7 @@ fn view_of<'s, 'b, 'm>(
 ) -> ModuleView<'s, 'b, 'm>
     requires number { number < length built.now.objects }
     requires as_many { length sources.now ≡ length built.now.objects }
-    requires marked { AreMarksOf built.now.objects marks.now }
+    requires marked { AreMarksOf (program_modules built.now.program) built.now.objects marks.now }
     ensures { IsViewAt (texts_of sources.now) built.now number code_base data_base result }
 {
     ModuleView {
@@ -48,6 +49,7 @@ fn view_of<'s, 'b, 'm>(
         object: &built.objects()[number],
         placed: &built.placement().modules()[number],
         marks: &marks[number],
+        procedures: built.marks()[number].procedures.as_slice(),
         code_base,
         data_base,
     }
@@ -63,7 +65,7 @@ pub(crate) fn views_of<'s, 'b, 'm>(
 ) -> Result<Vec<ModuleView<'s, 'b, 'm>>, AllocError>
     requires few { length sources.now ≤ MOST_SOURCES }
     requires program { IsProgramOf (texts_of sources.now) (program_modules built.now.program) }
-    requires marked { AreMarksOf built.now.objects marks.now }
+    requires marked { AreMarksOf (program_modules built.now.program) built.now.objects marks.now }
     ensures { IfOk result (λ views. AreViews (texts_of sources.now) built.now views.items) }
 {
     let plan = built.plan();

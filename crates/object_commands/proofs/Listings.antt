@@ -2,18 +2,13 @@
 use Rattle.object_commands.proofs.{Prelude.{◌≡◌, ℕ, ◌+◌, ◌≤◌, Bool, false, None, arith, append-nil, append_assoc, drop, flat_map, get_or, length, take-length, ◌^◌, ◌-◌, ◌<◌, true, List, take, [], ◌∷◌, ◌++◌, Option, Some, Result, OnOk, IfSome, refl, ap, subst, sym, ◌∙◌, Appends, digits, digits_output, format_spec, styled_digits_output, hex_byte, Absolute, ObjectModule, plan_view, byte_digits, Form, One, Two, Three, Unknown, first_instruction, form_of, instruction_of, ◌&&◌, if◌then◌else◌, nat_le, not, slice_index, and_parts, leb-true, length-drop, MEMORY_SIZE, Piece, Instr, Range, AreListed, IsListing, ListsModule, next_piece, no_piece, begins, ends, if_whole, is_named_within, is_whole, label_line, part_line, shown_text, size_of, ListsPiece, ListsPieces, Symbol, code_range, Plan, part_lines, shown_at}, Lists.{left_is, nothing_left}}
 
 -- what a hole `{:02X}` writes of a byte
-byte_is : (d : _) (spec : _) (n : ℕ) → digits_output d ≡ Some (digits 16 true n)
-    → spec ≡ format_spec 32 0 4 2 (2 ^ 64 - 1) → n < 256
-    → styled_digits_output d spec ≡ Some (byte_digits n)
-byte_is d spec n shown is small = rw (is, shown) (ap Some (hex_byte true n small))
-
 pub byte_written : {E : Type 0} (result : Result (Unit {0}) E) (d : _) (spec : _) (n : ℕ) (old new : List ℕ)
     → digits_output d ≡ Some (digits 16 true n) → spec ≡ format_spec 32 0 4 2 (2 ^ 64 - 1) → n < 256
     → OnOk result (IfSome (styled_digits_output d spec) (Appends (Some old) (Some new)))
     → OnOk result (new ≡ old ++ byte_digits n)
 byte_written result d spec n old new shown is small wrote =
-    subst (λ (o : Option (List ℕ)). OnOk result (IfSome o (Appends (Some old) (Some new))))
-    (byte_is d spec n shown is small) wrote
+    let printed : styled_digits_output d spec ≡ Some (byte_digits n) = rw (is, shown) (ap Some (hex_byte true n small)) in
+    subst (λ (o : Option (List ℕ)). OnOk result (IfSome o (Appends (Some old) (Some new)))) printed wrote
 
 pub shown_by : (symbols : List Symbol) (code : Range) (address count : ℕ) (bytes : List ℕ)
     (first shown : Option (Instr × ℕ)) → count ≡ length bytes → first ≡ first_instruction bytes

@@ -1,5 +1,6 @@
 mod Prelude
 pub mod ReadLemmas
 pub mod OneSource
+pub mod LinesCounted
 pub mod Programs
 pub mod SoundSources

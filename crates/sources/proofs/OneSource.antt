@@ -34,7 +34,7 @@ same_expansion text one other first second =
     subst (λ (words : List Lexeme). Expands words one) same first.expanded in
     one_whole expanded second.expanded
 
-same_tree : (text : List ℕ) (one other : ModuleTree) → IsText text one → IsText text other → one ≡ other
+pub same_tree : (text : List ℕ) (one other : ModuleTree) → IsText text one → IsText text other → one ≡ other
 same_tree text one other first second =
     let same : first.output ≡ second.output =
     same_expansion text first.output second.output first.expansion second.expansion in

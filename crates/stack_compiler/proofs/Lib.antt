@@ -9,3 +9,4 @@ pub mod RowLoops
 pub mod RowLaws
 pub mod MainModules
 pub mod Marked
+pub mod Counted

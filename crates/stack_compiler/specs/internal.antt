@@ -9,3 +9,4 @@ pub mod Sequences
 pub mod Rows
 pub mod MainCode
 pub mod Marked
+pub mod Counted

@@ -1,13 +1,14 @@
 //! Compiling a program.
 
-ghost use Rattle.std.specs.Prelude.{◌≡◌, ◌<◌, length, map, Some, IfOk};
-ghost use Rattle.typed_trees.specs.Views.{module_view};
+ghost use Rattle.std.specs.Prelude.{◌≡◌, ◌<◌, length, map, slice_get, Some, IfOk};
+ghost use Rattle.typed_trees.specs.Views.{list_view, module_view};
 ghost use Rattle.layout.specs.Joined.{is_main};
 ghost use Rattle.meaning.specs.Run.{number_of_main};
 ghost use Rattle.join.specs.Views.{modules_of};
 ghost use Rattle.placing.specs.Views.{placement_view};
 ghost use Rattle.stack_code.specs.internal.Code.{program_code};
 ghost use Rattle.stack_compiler.specs.internal.Compiled.{IsCompiled};
+ghost use Rattle.stack_compiler.specs.internal.Counted.{AreInModules, HaveParts, Numbers, numbered_list};
 ghost use Rattle.stack_compiler.specs.internal.MainCode.{IsCodeOf};
 ghost use Rattle.stack_compiler.specs.internal.Marked.{AreMarksOf, AreOfModules, first_place};
 
@@ -56,6 +57,11 @@ fn code_with_main(
     ensures code { IfOk result (λ code. code.items ≡ program_code (map module_view program.now.modules.now)
         (placement_view program.now.placement.now) number (module_view main.now)) }
     ensures marks { IfOk result (λ code. AreMarksOf (length program.now.modules.now) marks.new) }
+    ensures main { IfOk result (λ code. marks.new.main_module ≡ marks.old.main_module) }
+    ensures parts { IfOk result (λ code. HaveParts (map module_view program.now.modules.now) marks.old
+        → HaveParts (map module_view program.now.modules.now) marks.new) }
+    ensures numbers { IfOk result (λ code.
+        Numbers 0 (numbered_list (list_view main.now.main.body)) of_main.old of_main.new) }
 {
     let mut code = Vec::new(alloc);
     emit_main(alloc, program, &mut code, of_main, number, main)?;
@@ -132,6 +138,9 @@ fn marks_with_main(
     main: &Typed,
 ) -> Result<Vec<StackMark>, AllocError>
     requires number { number < length program.now.modules.now }
+    requires main { slice_get program.now.modules.now number ≡ Some main.now }
+    ensures in_modules { IfOk result (λ marks.
+        AreInModules (map module_view program.now.modules.now) marks.items) }
     ensures of_modules { IfOk result (λ marks.
         AreOfModules (length program.now.modules.now) marks.items) }
     ensures begins { IfOk result (λ marks. first_place marks.items ≡ Some 0) }
@@ -140,11 +149,14 @@ fn marks_with_main(
     let mut marks = ProgramMarks::new(alloc, true, number);
     let code = code_with_main(alloc, program, &mut of_main, &mut marks, number, main)?;
     drop(code);
-    marks.with_main(alloc, &of_main)
+    let list = marks.with_main(alloc, &of_main)?;
+    Ok(list)
 }
 
 // The marks of the code of a program, none where it has no modules.
 fn marks_of(alloc: Global, program: &Program<'_>) -> Result<Vec<StackMark>, AllocError>
+    ensures in_modules { IfOk result (λ marks.
+        AreInModules (map module_view program.now.modules.now) marks.items) }
     ensures of_modules { IfOk result (λ marks.
         AreOfModules (length program.now.modules.now) marks.items) }
     ensures begins { 0 < length program.now.modules.now →
@@ -159,13 +171,15 @@ fn marks_of(alloc: Global, program: &Program<'_>) -> Result<Vec<StackMark>, Allo
 }
 
 /// Where the parts of the code that `compile` makes of a program begin, in the order of the code. Each is in a module of the
-/// program, and the first one is at the start of the code.
+/// program, with a number below the count of its procedures or of its statements, and the first one is at the start of the code.
 pub fn stack_marks(
     alloc: Global,
     joined: &Joined,
     placement: &Placement,
 ) -> Result<Vec<StackMark>, AllocError>
     ensures of_modules { IfOk result (λ marks. AreOfModules (length (modules_of joined.now)) marks.items) }
+    ensures in_modules { IfOk result (λ marks.
+        AreInModules (map module_view (modules_of joined.now)) marks.items) }
     ensures begins { 0 < length (modules_of joined.now) →
         IfOk result (λ marks. first_place marks.items ≡ Some 0) }
 {

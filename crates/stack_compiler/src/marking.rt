@@ -104,8 +104,15 @@ fn add_marks(
 }
 
 impl Marks {
+    ghost use Rattle.std.specs.Prelude.{◌≡◌, [], OnOk};
+    ghost use Rattle.stack_compiler.specs.declared.marking.StackPart.TheVariants.{Statement};
+    ghost use Rattle.stack_compiler.specs.internal.Counted.{Keeps, Numbers, Takes};
+
     /// No marks, at the start of the code. Where none are wanted none are added.
-    pub(crate) fn new(alloc: Global, is_wanted: bool) -> Marks {
+    pub(crate) fn new(alloc: Global, is_wanted: bool) -> Marks
+        ensures list { result.list.items ≡ [] }
+        ensures statements { result.statements ≡ 0 }
+    {
         Marks {
             is_wanted,
             list: Vec::new(alloc),
@@ -116,11 +123,10 @@ impl Marks {
     }
 
     /// Adds the mark of a part whose code comes next, after this code.
-    pub(crate) fn put(
-        &mut self,
-        code: &Vec<Instruction>,
-        part: StackPart,
-    ) -> Result<(), AllocError> {
+    #[tactic(auto, using(crate::proofs::Counted::takes_put, crate::proofs::Counted::takes_none))]
+    pub(crate) fn put(&mut self, code: &Vec<Instruction>, part: StackPart) -> Result<(), AllocError>
+        ensures { OnOk result (Takes part self.old self.new) }
+    {
         if self.is_wanted {
             self.list.push(PartMark {
                 part,
@@ -134,14 +140,18 @@ impl Marks {
     pub(crate) fn begin_statement(
         &mut self,
         code: &Vec<Instruction>,
-    ) -> Result<OpenStatement, AllocError> {
+    ) -> Result<OpenStatement, AllocError>
+        ensures { OnOk result (Takes (Statement 0) self.old self.new) }
+    {
         let index = self.list.len();
         self.put(code, StackPart::Statement(0))?;
         Ok(OpenStatement { index })
     }
 
     /// Adds the mark of the code of a loop after its body. No other statement begins before the loop ends.
-    pub(crate) fn end_body(&mut self, code: &Vec<Instruction>) -> Result<(), AllocError> {
+    pub(crate) fn end_body(&mut self, code: &Vec<Instruction>) -> Result<(), AllocError>
+        ensures { OnOk result (Takes (Statement 0) self.old self.new) }
+    {
         let index = self.list.len();
         self.put(code, StackPart::Statement(0))?;
         self.after_body = Some(index);
@@ -149,44 +159,71 @@ impl Marks {
     }
 
     // Gives the mark at an index the number of a statement.
-    fn number(&mut self, index: usize, number: usize) {
+    #[tactic(auto, using(crate::proofs::Counted::takes_set, crate::proofs::Counted::takes_none))]
+    fn number(&mut self, index: usize, number: usize)
+        ensures takes { Takes (Statement number) self.old self.new }
+        ensures statements { self.new.statements ≡ self.old.statements }
+    {
         if let Some(mark) = self.list.get_mut(index) {
-            mark.part = StackPart::Statement(number);
+            *mark = PartMark {
+                part: StackPart::Statement(number),
+                place: mark.place,
+            };
+        }
+    }
+
+    // Gives the code of a loop after its body, if there is one, the number of the loop.
+    #[tactic(auto, using(crate::proofs::Counted::takes_later, crate::proofs::Counted::takes_none))]
+    fn number_body(&mut self, number: usize)
+        ensures takes { Takes (Statement number) self.old self.new }
+        ensures statements { self.new.statements ≡ self.old.statements }
+    {
+        let body = self.after_body;
+        self.after_body = None;
+        if let Some(index) = body {
+            self.number(index, number);
         }
     }
 
     /// Gives a statement, whose code is made, the next number.
-    pub(crate) fn end_statement(&mut self, open: OpenStatement) {
+    #[tactic(auto, using(crate::proofs::Counted::numbers_one))]
+    pub(crate) fn end_statement(&mut self, open: OpenStatement)
+        ensures { Numbers 0 1 self.old self.new }
+    {
         let number = self.statements;
         self.number(open.index, number);
-        if let Some(index) = self.after_body {
-            self.number(index, number);
-        }
-        self.after_body = None;
+        self.number_body(number);
         self.statements = number.saturating_add(1);
     }
 
     /// Begins instructions that will be added to this code, and returns where this code itself begins.
-    pub(crate) fn enter(&mut self, code: &Vec<Instruction>) -> usize {
+    #[tactic(auto, using(crate::proofs::Counted::keeps_same))]
+    pub(crate) fn enter(&mut self, code: &Vec<Instruction>) -> usize
+        ensures { Keeps self.old self.new }
+    {
         let base = self.base;
         self.base = base.saturating_add(code.len());
         base
     }
 
     /// Ends them, and goes on with code that begins there.
-    pub(crate) fn leave(&mut self, base: usize) {
+    #[tactic(auto, using(crate::proofs::Counted::keeps_same))]
+    pub(crate) fn leave(&mut self, base: usize)
+        ensures { Keeps self.old self.new }
+    {
         self.base = base;
     }
 }
 
 impl ProgramMarks {
-    ghost use Rattle.std.specs.Prelude.{◌≡◌, ◌++◌, ◌∷◌, [], map, IfOk, OnOk};
+    ghost use Rattle.std.specs.Prelude.{◌≡◌, ◌==◌, ◌++◌, ◌∷◌, [], map, if◌then◌else◌, IfOk, OnOk};
     ghost use Rattle.stack_compiler.specs.internal.Marked.{main_mark, stack_mark};
 
     /// No marks of a program with the main program in this module. Where none are wanted none are added.
     pub(crate) fn new(alloc: Global, is_wanted: bool, main_module: usize) -> ProgramMarks
         ensures list { result.list.items ≡ [] }
         ensures main { result.main_module ≡ main_module }
+        ensures before { result.before_main ≡ 0 }
     {
         ProgramMarks {
             is_wanted,
@@ -197,7 +234,10 @@ impl ProgramMarks {
     }
 
     /// No marks of a module yet.
-    pub(crate) fn of_module(&self, alloc: Global) -> Marks {
+    pub(crate) fn of_module(&self, alloc: Global) -> Marks
+        ensures list { result.list.items ≡ [] }
+        ensures statements { result.statements ≡ 0 }
+    {
         Marks::new(alloc, self.is_wanted)
     }
 
@@ -210,6 +250,8 @@ impl ProgramMarks {
         ensures list { OnOk result (self.new.list.items
             ≡ self.old.list.items ++ map (stack_mark number_of_module 0) marks.now.list.items) }
         ensures main { self.new.main_module ≡ self.old.main_module }
+        ensures before { OnOk result (self.new.before_main ≡ (if number_of_module == self.old.main_module
+            then marks.now.statements else self.old.before_main)) }
     {
         if number_of_module == self.main_module {
             self.before_main = marks.statements;

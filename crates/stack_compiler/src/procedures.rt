@@ -1,10 +1,11 @@
 //! The code of procedures and modules.
 
-ghost use Rattle.std.specs.Prelude.{◌≡◌, ◌++◌, length, map, OnOk};
-ghost use Rattle.typed_trees.specs.Views.{module_view, procedure_view};
+ghost use Rattle.std.specs.Prelude.{◌≡◌, ℕ, ◌<◌, ◌++◌, length, map, OnOk};
+ghost use Rattle.typed_trees.specs.Views.{list_view, module_view, procedure_view};
 ghost use Rattle.placing.specs.Views.{placement_view};
 ghost use Rattle.meaning.specs.Access.{home_of};
 ghost use Rattle.stack_code.specs.internal.Code.{main_code, parameter_code, parameters_code, procedure_code, surroundings_at};
+ghost use Rattle.stack_compiler.specs.internal.Counted.{HaveParts, Numbers, NumbersIn, numbered_bodies, numbered_body, numbered_list};
 ghost use Rattle.stack_compiler.specs.internal.Marked.{AreMarksOf};
 ghost use Rattle.stack_compiler.specs.internal.Sequences.{modules_code_from, procedures_code_from};
 ghost use Rattle.stack_compiler.specs.internal.Sites.{site_view};
@@ -70,8 +71,10 @@ fn emit_procedure(
     number: usize,
     procedure: &TypedProcedure,
 ) -> Result<(), AllocError>
-    ensures { OnOk result (code.new.items ≡ code.old.items
+    ensures code { OnOk result (code.new.items ≡ code.old.items
         ++ procedure_code (site_view site.now) (number, procedure_view procedure.now)) }
+    ensures numbers { OnOk result ((procedures : ℕ) → number < procedures
+        → NumbersIn procedures 0 (numbered_body (procedure_view procedure.now)) marks.old marks.new) }
 {
     marks.put(code, StackPart::Procedure(number))?;
     emit(
@@ -93,14 +96,17 @@ fn emit_procedure(
 }
 
 // The procedures of a module.
+#[tactic(auto, using(crate::proofs::Counted::so_far_nothing))]
 fn emit_procedures(
     site: &Site<'_>,
     code: &mut Vec<Instruction>,
     marks: &mut Marks,
     procedures: &[TypedProcedure],
 ) -> Result<(), AllocError>
-    ensures { OnOk result (code.new.items ≡ code.old.items
+    ensures code { OnOk result (code.new.items ≡ code.old.items
         ++ procedures_code_from (site_view site.now) 0 (map procedure_view procedures.now)) }
+    ensures numbers { OnOk result (NumbersIn (length (map procedure_view procedures.now)) 0
+        (numbered_bodies (map procedure_view procedures.now)) marks.old marks.new) }
 {
     for (number, procedure) in procedures.iter().enumerate() {
         emit_procedure(site, code, marks, number, procedure)?;
@@ -115,8 +121,10 @@ fn emit_module(
     marks: &mut Marks,
     typed: &Typed,
 ) -> Result<(), AllocError>
-    ensures { OnOk result (code.new.items ≡ code.old.items
+    ensures code { OnOk result (code.new.items ≡ code.old.items
         ++ procedures_code_from (site_view site.now) 0 (map procedure_view typed.now.procedures.items)) }
+    ensures numbers { OnOk result (NumbersIn (length (map procedure_view typed.now.procedures.items)) 0
+        (numbered_bodies (map procedure_view typed.now.procedures.items)) marks.old marks.new) }
 {
     emit_procedures(site, code, marks, typed.procedures.as_slice())
 }
@@ -133,6 +141,9 @@ pub(crate) fn emit_modules(
         ++ modules_code_from (map module_view program.now.modules.now)
         (placement_view program.now.placement.now) 0 (map module_view program.now.modules.now)) }
     ensures marks { OnOk result (AreMarksOf (length program.now.modules.now) marks.new) }
+    ensures main { OnOk result (marks.new.main_module ≡ marks.old.main_module) }
+    ensures parts { OnOk result (HaveParts (map module_view program.now.modules.now) marks.old
+        → HaveParts (map module_view program.now.modules.now) marks.new) }
 {
     let modules = program.modules;
     for (number_of_module, typed) in modules.iter().enumerate() {
@@ -141,9 +152,9 @@ pub(crate) fn emit_modules(
             program: &*program,
             number_of_module,
         };
-        let mut of_module = marks.of_module(alloc);
-        emit_module(&site, code, &mut of_module, typed)?;
-        marks.add_module(number_of_module, &of_module)?;
+        let mut own = marks.of_module(alloc);
+        emit_module(&site, code, &mut own, typed)?;
+        marks.add_module(number_of_module, &own)?;
     }
     Ok(())
 }
@@ -158,9 +169,10 @@ pub(crate) fn emit_main(
     number_of_module: usize,
     typed: &Typed,
 ) -> Result<(), AllocError>
-    ensures { OnOk result (code.new.items ≡ code.old.items
+    ensures code { OnOk result (code.new.items ≡ code.old.items
         ++ main_code (map module_view program.now.modules.now) (placement_view program.now.placement.now)
         (number_of_module, module_view typed.now)) }
+    ensures numbers { OnOk result (Numbers 0 (numbered_list (list_view typed.now.main.body)) marks.old marks.new) }
 {
     let site = Site {
         alloc,

@@ -1,11 +1,12 @@
 //! The code of statements.
 
-ghost use Rattle.std.specs.Prelude.{◌≡◌, ◌++◌, ◌∷◌, [], length, map, option_map, IfOk, OnOk};
+ghost use Rattle.std.specs.Prelude.{◌≡◌, ◌+◌, ◌++◌, ◌∷◌, [], length, map, option_map, IfOk, OnOk};
 ghost use Rattle.typed_trees.specs.TypedTrees.{IterateStatement};
 ghost use Rattle.typed_trees.specs.Views.{arguments_view, else_view, expression_view, iteration_view, list_view, statement_view, statements_view, target_view};
 ghost use Rattle.meaning.specs.Meaning.{callee_in};
 ghost use Rattle.stack_code.specs.declared.instruction.Instruction.TheVariants.{Case, Drop, Jump, Move, Return};
 ghost use Rattle.stack_code.specs.internal.Code.{arguments_code, called_code, cases_code, choice_code, count_of_arguments, count_of_statements, else_code, entries_code, expression_code, first_code, last_code, list_code, loop_code, statement_code, statements_code, step_code, surroundings_at, targets_code, value_or};
+ghost use Rattle.stack_compiler.specs.internal.Counted.{Numbers, numbered_else, numbered_list, numbered_parts, numbered_statements};
 ghost use Rattle.stack_compiler.specs.internal.Loops.{stepping_code, turned_back};
 ghost use Rattle.stack_compiler.specs.internal.Openings.{opened, opening, passing};
 ghost use Rattle.stack_compiler.specs.internal.Sites.{site_view};
@@ -196,14 +197,17 @@ fn emit_stepping(
 
 /// A statement.
 #[cycle(statement)]
+#[tactic(auto, using(crate::proofs::Counted::statement_numbered))]
 pub(crate) fn emit_statement(
     site: &Site<'_>,
     code: &mut Vec<Instruction>,
     marks: &mut Marks,
     statement: &TypedStatement,
 ) -> Result<(), AllocError>
-    ensures { OnOk result (code.new.items
+    ensures code { OnOk result (code.new.items
         ≡ code.old.items ++ statement_code (site_view site.now) (statement_view statement.now)) }
+    ensures numbers { OnOk result (Numbers 0 (numbered_parts (statement_view statement.now) + 1)
+        marks.old marks.new) }
 {
     let open = marks.begin_statement(code)?;
     emit_kind(site, code, marks, statement)?;
@@ -213,15 +217,17 @@ pub(crate) fn emit_statement(
 
 // A statement, after its mark.
 #[cycle(statement)]
-#[tactic(auto, using(typed_trees::specs::declared::statement::TypedStatement::the_lemmas, typed_trees::proofs::Views::statement_rows_are))]
+#[tactic(auto, using(typed_trees::specs::declared::statement::TypedStatement::the_lemmas, typed_trees::proofs::Views::statement_rows_are, crate::proofs::Counted::more_to_spare, crate::proofs::Counted::no_numbers))]
 fn emit_kind(
     site: &Site<'_>,
     code: &mut Vec<Instruction>,
     marks: &mut Marks,
     statement: &TypedStatement,
 ) -> Result<(), AllocError>
-    ensures { OnOk result (code.new.items
+    ensures code { OnOk result (code.new.items
         ≡ code.old.items ++ statement_code (site_view site.now) (statement_view statement.now)) }
+    ensures numbers { OnOk result (Numbers 1 (numbered_parts (statement_view statement.now))
+        marks.old marks.new) }
 {
     match statement {
         TypedStatement::Label(label) => emit(
@@ -263,10 +269,12 @@ fn emit_if(
     marks: &mut Marks,
     branch: &TypedIf,
 ) -> Result<(), AllocError>
-    ensures { OnOk result (code.new.items ≡ code.old.items
+    ensures code { OnOk result (code.new.items ≡ code.old.items
         ++ (expression_code (site_view site.now) (expression_view branch.now.condition)
         ++ choice_code (statement_code (site_view site.now) (statement_view branch.now.body))
         (else_code (site_view site.now) (else_view branch.now.otherwise)))) }
+    ensures numbers { OnOk result (Numbers 1 (numbered_parts (statement_view branch.now.body) + 1
+        + numbered_else (else_view branch.now.otherwise)) marks.old marks.new) }
 {
     emit_expression(site, code, &branch.condition)?;
     let choice = next_place(code);
@@ -293,22 +301,26 @@ pub(crate) fn emit_list(
     marks: &mut Marks,
     list: &TypedList,
 ) -> Result<(), AllocError>
-    ensures { OnOk result (code.new.items
+    ensures code { OnOk result (code.new.items
         ≡ code.old.items ++ list_code (site_view site.now) (list_view list.now)) }
+    ensures numbers { OnOk result (Numbers 0 (numbered_list (list_view list.now)) marks.old marks.new) }
 {
     emit_statements(site, code, marks, list.statements.as_slice())
 }
 
 // Statements one after another.
 #[cycle(statement)]
+#[tactic(auto, using(crate::proofs::Counted::so_far_nothing))]
 fn emit_statements(
     site: &Site<'_>,
     code: &mut Vec<Instruction>,
     marks: &mut Marks,
     statements: &[TypedStatement],
 ) -> Result<(), AllocError>
-    ensures { OnOk result (code.new.items
+    ensures code { OnOk result (code.new.items
         ≡ code.old.items ++ statements_code (site_view site.now) (statements_view statements.now)) }
+    ensures numbers { OnOk result (Numbers 0 (numbered_statements (statements_view statements.now))
+        marks.old marks.new) }
 {
     for statement in statements {
         emit_statement(site, code, marks, statement)?;
@@ -324,10 +336,11 @@ fn emit_while(
     marks: &mut Marks,
     turns: &TypedWhile,
 ) -> Result<(), AllocError>
-    ensures { OnOk result (code.new.items ≡ code.old.items
+    ensures code { OnOk result (code.new.items ≡ code.old.items
         ++ (Jump (length (list_code (site_view site.now) (list_view turns.now.body)))
         ∷ loop_code (list_code (site_view site.now) (list_view turns.now.body))
         (expression_code (site_view site.now) (expression_view turns.now.condition)))) }
+    ensures numbers { OnOk result (Numbers 1 (numbered_list (list_view turns.now.body)) marks.old marks.new) }
 {
     let start = next_place(code);
     emit(code, Instruction::Jump(0))?;
@@ -346,9 +359,10 @@ fn emit_iterate(
     marks: &mut Marks,
     turns: &TypedIterate,
 ) -> Result<(), AllocError>
-    ensures { OnOk result (code.new.items ≡ code.old.items
+    ensures code { OnOk result (code.new.items ≡ code.old.items
         ++ statement_code (site_view site.now)
         (IterateStatement (iteration_view turns.now.head) (list_view turns.now.body))) }
+    ensures numbers { OnOk result (Numbers 1 (numbered_list (list_view turns.now.body)) marks.old marks.new) }
 {
     emit_first(site, code, &turns.head)?;
     let start = next_place(code);
@@ -372,12 +386,14 @@ fn emit_case(
     marks: &mut Marks,
     choice: &TypedCase,
 ) -> Result<(), AllocError>
-    ensures { OnOk result (code.new.items ≡ code.old.items
+    ensures code { OnOk result (code.new.items ≡ code.old.items
         ++ (expression_code (site_view site.now) (expression_view choice.now.choice)
         ++ (Case (count_of_statements (statements_view choice.now.body.items))
         ∷ (entries_code (site_view site.now) (count_of_statements (statements_view choice.now.body.items)) 0
         (statements_view choice.now.body.items)
         ++ cases_code (site_view site.now) (statements_view choice.now.body.items))))) }
+    ensures numbers { OnOk result (Numbers 1 (numbered_statements (statements_view choice.now.body.items))
+        marks.old marks.new) }
 {
     emit_expression(site, code, &choice.choice)?;
     emit(code, Instruction::Case(choice.body.len()))?;
@@ -395,10 +411,12 @@ fn cases_of(
     marks: &mut Marks,
     statements: &[TypedStatement],
 ) -> Result<Vec<Instruction>, AllocError>
-    ensures { IfOk result (λ cases. cases.items
+    ensures code { IfOk result (λ cases. cases.items
         ≡ entries_code (site_view site.now) (count_of_statements (statements_view statements.now)) 0
         (statements_view statements.now)
         ++ cases_code (site_view site.now) (statements_view statements.now)) }
+    ensures numbers { OnOk result (Numbers 1 (numbered_statements (statements_view statements.now))
+        marks.old marks.new) }
 {
     let mut cases = holes(site.alloc, statements.len())?;
     let mut ends = Vec::new(site.alloc);
@@ -409,6 +427,7 @@ fn cases_of(
 
 // The statements of DO CASE, each with a jump after it that is filled in later; each has its jump among the first ones.
 #[cycle(statement)]
+#[tactic(auto, using(crate::proofs::Counted::so_far_nothing))]
 fn open_cases(
     site: &Site<'_>,
     cases: &mut Vec<Instruction>,
@@ -416,9 +435,11 @@ fn open_cases(
     marks: &mut Marks,
     statements: &[TypedStatement],
 ) -> Result<(), AllocError>
-    ensures { OnOk result (opening cases.new.items ends.new.items
+    ensures code { OnOk result (opening cases.new.items ends.new.items
         ≡ opened (site_view site.now) 0 (opening cases.old.items ends.old.items)
         (statements_view statements.now)) }
+    ensures numbers { OnOk result (Numbers 1 (numbered_statements (statements_view statements.now))
+        marks.old marks.new) }
 {
     for (entry, statement) in statements.iter().enumerate() {
         close_jump(cases, entry);

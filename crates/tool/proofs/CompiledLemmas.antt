@@ -8,6 +8,8 @@ use Rattle.codegen8080.specs.declared.module.Generated.{Generated}
 unfoldable use Rattle.generation.specs.internal.TreeCode.{KeepsNames}
 use Rattle.sources.specs.GlobalNames.{GlobalNamesDiffer}
 use Rattle.sources.specs.declared.sources.Source as declared_source
+use Rattle.codegen8080.specs.declared.module.CodeMarks.{CodeMarks}
+use Rattle.generation.specs.Marks.{LieInModule}
 
 pub has_source : (text : List ℕ) (typed : TypedModule) → IsSourceOf text typed → HasSource typed
 has_source text typed source = record { text = text; source = source }
@@ -43,6 +45,14 @@ pub made_of : (typed : TypedModule) (tree : TreeModule) (object : ObjectModule)
     → IsSoundlyMade typed object
 unfolding OfItsModule
 made_of typed tree object code made = made typed code
+
+-- and has its marks
+pub marks_of_module : (typed : TypedModule) (tree : TreeModule) (object : ObjectModule) (marks : CodeMarks)
+    → IsSoundTreeCode typed tree
+    → OfItsModule tree (LieInModule marks) object
+    → LieInModule marks typed object
+unfolding OfItsModule
+marks_of_module typed tree object marks code lie = lie typed code
 
 -- a failure of its code has its cause
 pub generation_refused : (file : ℕ) (typed : TypedModule) (tree : TreeModule)

@@ -1,11 +1,10 @@
 -- Programs of sources that are compiled.
 use Rattle.tool.proofs.Prelude.{◌≡◌, ℕ, zero, suc, ◌<◌, ◌≤◌, ◌⊎◌, inl, inr, List, [], ◌∷◌, length, map, Some, None, Result, Ok, Err, All, arith, refl, sym, ap, ◌∙◌, subst, ⊎_elim, cases_lt, All-cons, All-from_recursion, All-nil, AllByRecursion, AllZip, TypedModule, Typed, JumpsAreSound, module_view, Layout, IsJoined, IsLawful, IsSoundlyTyped, Placement, placement_by, placing_refusal, storage_with, layout_view, IsObjectModule, ObjectModule, length_of, Plan, HaveStorage, ReadFault, HasReadCause, Absolute, files_give_the_image, KeepsContract, AreSoundlyMade, make_the_program, numbers_fit, HaveImage, Placed, AreSourcesOf, IsPlacedBy, IsProgramOf, program_modules, text_of, Compiled, ToolFault, TooManySources, Source, Code, Program, Link, Locate, DoesWhatItSays, EndsWithItsMemory, IsImageOfFiles, IsImageOfObjects, StartsAsItsSource, code_lengths, GivesImageOfObjects, AreWithoutFault, HasCause, IsInOrder, IsWithoutFault, sources_before, AreCompiled, HasBuildCause, IsBuiltFrom, module_in}
-use Rattle.std.specs.Prelude.{IfOk, Vec}
-use Rattle.std.specs.declared.alloc.Global.{Global}
+use Rattle.std.specs.Prelude.{IfOk}
 use Rattle.failure.specs.{Failure.{IfFault}, declared.Failure.{Failure, TheVariants.{Fault, Memory}}}
 use Rattle.words.specs.declared.limits.TheConstants.{LONGEST_SOURCE}
 use Rattle.object_modules.specs.declared.segment.Segment.TheVariants as segments
-use Rattle.codegen8080.specs.declared.marking.Mark.{Mark}
+use Rattle.codegen8080.specs.declared.module.CodeMarks.{CodeMarks}
 use Rattle.locate.specs.Locating as of_locating
 use Rattle.placing.specs.Views as of_placement
 use Rattle.sources.specs.declared.read.ReadFault.TheVariants as read_faults
@@ -79,20 +78,24 @@ made_all texts compiled modules objects are is its =
 
 -- the marks of each lie in its code
 lie_in_each : (texts : List (List ℕ)) (compiled : List Compiled) → AreCompiled texts compiled
-    → LieInEach (map (λ (one : Compiled). one.object) compiled) (map (λ (one : Compiled). one.marks) compiled)
+    → LieInEach (modules_in compiled) (map (λ (one : Compiled). one.object) compiled)
+    (map (λ (one : Compiled). one.marks) compiled)
 lie_in_each [] [] are = tt
 lie_in_each [] (one ∷ others) are = absurd are
 lie_in_each (text ∷ texts) [] are = absurd are
 lie_in_each (text ∷ texts) (one ∷ others) are = (are.0.marked, lie_in_each texts others are.1)
 
-pub marked_all : (texts : List (List ℕ)) (compiled : List Compiled) (objects : List ObjectModule)
-    (marks : List (Vec Mark Global)) → AreCompiled texts compiled
+pub marked_all : (texts : List (List ℕ)) (compiled : List Compiled) (modules : List Typed)
+    (objects : List ObjectModule) (marks : List CodeMarks) → AreCompiled texts compiled
+    → modules ≡ map typed_in compiled
     → objects ≡ map (λ (one : Compiled). one.object) compiled
     → marks ≡ map (λ (one : Compiled). one.marks) compiled
-    → LieInEach objects marks
-marked_all texts compiled objects marks are its these =
-    subst (λ (given : List ObjectModule). LieInEach given marks) (sym its)
-    (subst (LieInEach (map (λ (one : Compiled). one.object) compiled)) (sym these) (lie_in_each texts compiled are))
+    → LieInEach (map module_view modules) objects marks
+marked_all texts compiled modules objects marks are is its these =
+    subst (λ ms. LieInEach (map module_view ms) objects marks) (sym is)
+    (subst (λ (given : List ObjectModule). LieInEach (modules_in compiled) given marks) (sym its)
+    (subst (LieInEach (modules_in compiled) (map (λ (one : Compiled). one.object) compiled)) (sym these)
+    (lie_in_each texts compiled are)))
 
 -- what is true of modules of which object modules are made
 jumps_each : (modules : List TypedModule) (objects : List ObjectModule) → AreSoundlyMade modules objects

@@ -1,12 +1,19 @@
 -- Marks of the code of modules.
-use Rattle.std.specs.Prelude.{List, Vec}
-use Rattle.std.specs.List.{AllZip}
-use Rattle.std.specs.declared.alloc.Global.{Global}
+use Rattle.std.specs.Prelude.{List, [], ◌∷◌}
 use Rattle.object_modules.specs.Module.{ObjectModule}
+use Rattle.typed_trees.specs.TypedTrees.{TypedModule}
 use Rattle.codegen8080.specs.declared.marking.Mark.{Mark}
-use Rattle.codegen8080.specs.Marks.{LieInCode}
+use Rattle.codegen8080.specs.declared.module.CodeMarks.{CodeMarks}
+use Rattle.generation.specs.Marks.{LieInModule}
+use Rattle.tool.specs.declared.marking.SourceMark.{SourceMark}
 
--- marks lie in the code of object modules, one by one
-abbrev pub LieInEach : List ObjectModule → List (Vec Mark Global) → Type 0
-LieInEach objects marks =
-    AllZip (λ (object : ObjectModule) (one : Vec Mark Global). LieInCode object one.items) objects marks
+-- a mark with its line, without that
+abbrev pub mark_of : SourceMark → Mark
+mark_of mark = record { part = mark.part; place = mark.place }
+
+-- the marks of modules lie in the code of their object modules, one by one
+abbrev pub LieInEach : List TypedModule → List ObjectModule → List CodeMarks → Type 0
+LieInEach [] [] [] = Unit {0}
+LieInEach (typed ∷ modules) (object ∷ objects) (marks ∷ others) =
+    LieInModule marks typed object × LieInEach modules objects others
+LieInEach modules objects others = ⊥

@@ -67,7 +67,7 @@ fn build_program(alloc: Global, parts: Parts, plan: &Plan) -> Result<Built, Fail
         ≡ map (λ typed. storage_with (module_view typed)) parts.modules.items }
     requires lengths { parts.lengths.items ≡ code_lengths parts.objects.items }
     requires made { AreSoundlyMade (map module_view parts.modules.items) parts.objects.items }
-    requires marked { LieInEach parts.objects.items parts.marks.items }
+    requires marked { LieInEach (map module_view parts.modules.items) parts.objects.items parts.marks.items }
     ensures program { IfOk result (IsBuiltFrom (map module_view parts.modules.items) plan.now) }
     ensures refused { IfFault result
         (λ fault. HasBuildCause fault (map module_view parts.modules.items) parts.lengths.items plan.now) }

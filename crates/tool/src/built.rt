@@ -4,9 +4,10 @@ ghost use Rattle.std.specs.Prelude.{◌≡◌};
 ghost use Rattle.placing.specs.Views.{placement_view};
 ghost use Rattle.tool.specs.Construction.{IsConstruction};
 ghost use Rattle.tool.specs.Marks.{LieInEach};
+ghost use Rattle.sources.specs.Programs.{program_modules};
 ghost use Rattle.tool.specs.internal.Inside.{IsMadeConstruction, construction_with};
 
-use codegen8080::Mark;
+use codegen8080::CodeMarks;
 use join::Joined;
 use locate::Absolute;
 use mem80::Plan;
@@ -23,7 +24,7 @@ pub struct Built {
     placement: Placement,
     objects: Vec<ObjectModule>,
     image: Absolute,
-    marks: Vec<Vec<Mark>>,
+    marks: Vec<CodeMarks>,
 }
 
 impl Model for Built {
@@ -50,10 +51,10 @@ impl Built {
         plan: Plan,
         objects: Vec<ObjectModule>,
         image: Absolute,
-        marks: Vec<Vec<Mark>>,
+        marks: Vec<CodeMarks>,
     ) -> Built
         requires made { IsMadeConstruction (construction_with placed plan objects.items image) }
-        requires marked { LieInEach objects.items marks.items }
+        requires marked { LieInEach (program_modules placed.program) objects.items marks.items }
         ensures { result ≡ construction_with placed plan objects.items image }
     {
         let Placed { program, placement } = placed;
@@ -108,8 +109,8 @@ impl Built {
     }
 
     /// Where the parts of the code of each of its modules begin, in the order of its modules.
-    pub fn marks(&self) -> &[Vec<Mark>]
-        ensures marked { LieInEach self.now.objects result.now }
+    pub fn marks(&self) -> &[CodeMarks]
+        ensures marked { LieInEach (program_modules self.now.program) self.now.objects result.now }
         ensures construction { IsConstruction self.now }
     {
         self.marks.as_slice()

@@ -6,10 +6,10 @@ ghost use Rattle.typed_trees.specs.Views.{module_view};
 ghost use Rattle.layout.specs.Storage.{storage_with};
 ghost use Rattle.layout.specs.Views.{layout_view};
 ghost use Rattle.sources.specs.Reading.{IsSourceOf};
-ghost use Rattle.codegen8080.specs.Marks.{LieInCode};
 ghost use Rattle.object_modules.specs.Module.{length_of};
 ghost use Rattle.object_modules.specs.declared.segment.Segment.TheVariants as segments;
 ghost use Rattle.generation.specs.internal.Typed.{IsSoundlyMade};
+ghost use Rattle.generation.specs.Marks.{LieInModule};
 ghost use Rattle.sources.specs.GlobalNames.{GlobalNamesDiffer};
 ghost use Rattle.sources.specs.Sound.{IsSoundlyTyped};
 ghost use Rattle.sources.specs.Programs.{texts_of};
@@ -18,7 +18,7 @@ ghost use Rattle.tool.specs.Sources.{AreWithoutFault, HasCause, IsInOrder, IsRef
 ghost use Rattle.tool.specs.internal.Compiling.{AreCompiled, HasCompileCause, HasGenerationCause, HasSource, HasSourceCause, IsCompiled, failure_of_code};
 
 use crate::fault::ToolFault;
-use codegen8080::{Generated, Mark};
+use codegen8080::{CodeMarks, Generated};
 use failure::Failure;
 use generation::{generate, lower};
 use layout::Layout;
@@ -28,12 +28,12 @@ use sources::{Source, SourceModule, read_source};
 use std::alloc::{AllocError, Global};
 use typed_trees::Typed;
 
-/// A source that is read, its object module, and where the parts of the code of that begin.
+/// A source that is read, its object module, and the marks of the code of that.
 #[derive(Drop)]
 pub struct Compiled {
     pub source: SourceModule,
     pub object: ObjectModule,
-    pub marks: Vec<Mark>,
+    pub marks: CodeMarks,
 }
 
 /// The object module of one source, which is the source 0 of its faults.
@@ -94,7 +94,8 @@ fn generated_of(
     requires storage { layout_view source.now.storage ≡ storage_with (module_view source.now.typed) }
     ensures made { IfOk result
         (λ generated. IsSoundlyMade (module_view source.now.typed) generated.object) }
-    ensures marked { IfOk result (λ generated. LieInCode generated.object generated.marks.items) }
+    ensures marked { IfOk result
+        (λ generated. LieInModule generated.marks (module_view source.now.typed) generated.object) }
     ensures refused { IfFault result (HasGenerationCause file (module_view source.now.typed)) }
 {
     let tree = lower(alloc, &source.typed, &source.storage)?;
@@ -138,7 +139,7 @@ pub struct Parts {
     pub storages: Vec<Layout>,
     pub objects: Vec<ObjectModule>,
     pub lengths: Vec<u32>,
-    pub marks: Vec<Vec<Mark>>,
+    pub marks: Vec<CodeMarks>,
 }
 
 impl Parts {

@@ -2,6 +2,7 @@
 
 ghost use Rattle.std.specs.Prelude.{◌≡◌, map, IfOk};
 ghost use Rattle.sources.specs.Reading.{IsSource};
+ghost use Rattle.tool.specs.Marks.{mark_of};
 
 use codegen8080::{CodePart, Mark};
 use sources::{SourceLines, source_lines};
@@ -49,8 +50,7 @@ fn with_lines(
     lines: &SourceLines,
     marks: &[Mark],
 ) -> Result<Vec<SourceMark>, AllocError>
-    ensures { IfOk result
-        (λ lined. map (λ mark. mark.place) lined.items ≡ map (λ mark. mark.place) marks.now) }
+    ensures { IfOk result (λ lined. map mark_of lined.items ≡ marks.now) }
 {
     let mut lined = Vec::with_capacity(alloc, marks.len())?;
     for mark in marks {
@@ -66,8 +66,7 @@ fn with_lines(
 /// Where the parts of the code of a module begin, by the marks of its code, with their lines in the source of the module.
 pub fn marks_of(alloc: Global, text: &[u8], marks: &[Mark]) -> Result<SourceMarks, AllocError>
     requires source { IsSource text.now }
-    ensures { IfOk result
-        (λ found. map (λ mark. mark.place) found.marks.items ≡ map (λ mark. mark.place) marks.now) }
+    ensures { IfOk result (λ found. map mark_of found.marks.items ≡ marks.now) }
 {
     let lines = source_lines(alloc, text)?;
     let marks = with_lines(alloc, &lines, marks)?;

@@ -53,6 +53,10 @@ content_items (contents.Gap count) = items.Gap count ∷ []
 abbrev pub contents_items : List Content → List Item
 contents_items contents = flat_map content_items contents
 
+-- how many bytes the constants of a module take
+abbrev pub constant_size : TreeModule → ℕ
+constant_size tree = size_of_items (contents_items tree.constants.items)
+
 -- a module has a main program: a statement at its outer level
 abbrev pub has_main : TreeModule → Bool
 has_main tree = nat_lt 0 tree.main.body.count
@@ -260,6 +264,11 @@ pub record IsCodeWritten (tree : TreeModule) (start : ℕ) (written : Written) :
   pub count : length written.externals ≡ length tree.externals.items
   pub names : (name number : ℕ) → entry written.externals name ≡ Some number → use_name name own ≡ true
   pub calls : (routine : Routine) → has_routine called routine ≡ true → call_routine tree routine own ≡ true
+
+-- the same, with the table that marks the routines that are called
+pub record IsWrittenWith (tree : TreeModule) (start : ℕ) (called : List Bool) (written : Written) : Type 0 where
+  pub code : IsCodeWritten tree start written
+  pub called_is : code.called ≡ called
 
 -- The code that was written is a segment of an object module, with these targets of its fixes. For code, its
 -- resolved bytes are the items at their places from the address of the code segment on, wherever that is. For

@@ -2,9 +2,10 @@
 
 ghost use Rattle.std.specs.Prelude.{◌≡◌, ◌<◌, length, All, Contains, IfOk, Some, true};
 ghost use Rattle.join.specs.Views.{modules_of};
-ghost use Rattle.interpreter.specs.internal.Marked.{first_place};
+ghost use Rattle.stack_compiler.specs.internal.Marked.{first_place};
 ghost use Rattle.sources.specs.Programs.{IsProgramOf, program_modules, texts_of};
 ghost use Rattle.sources.specs.Reading.{IsSource};
+ghost use Rattle.commands.specs.internal.PartLines.{HasLine, HasLineIn};
 ghost use Rattle.commands.specs.Standing.{NamesLine, module_names};
 
 use crate::places::line_text;
@@ -29,27 +30,25 @@ fn part_at(marks: &[StackMark], at: usize) -> StackMark
     last
 }
 
-// The line at which a part of code begins, if the tables of lines have one.
-fn line_of(lines: &SourceLines, part: StackPart) -> Option<u32> {
+// The line at which a part of code begins.
+#[tactic(auto, using(crate::proofs::PartLines::procedure_within, crate::proofs::PartLines::statement_within))]
+fn line_of(lines: &SourceLines, part: StackPart) -> u32
+    requires within { HasLineIn lines.now part }
+{
     match part {
-        StackPart::Main => Some(lines.module),
-        StackPart::Procedure(number) => lines.procedures.get(number).copied(),
-        StackPart::Statement(number) => lines.statements.get(number).copied(),
+        StackPart::Main => lines.module,
+        StackPart::Procedure(number) => lines.procedures[number],
+        StackPart::Statement(number) => lines.statements[number],
     }
 }
 
-// The line of the source of a mark. Where the tables of lines have none it is out of memory.
-fn marked_line(alloc: Global, sources: &[Source], mark: StackMark) -> Result<u32, AllocError>
-    requires sources { All IsSource (texts_of sources.now) }
-    requires within { mark.number_of_module < length sources.now }
+// The line of a source at which a part of its code begins.
+fn marked_line(alloc: Global, text: &[u8], part: StackPart) -> Result<u32, AllocError>
+    requires source { IsSource text.now }
+    requires part { HasLine text.now part }
 {
-    let lines = source_lines(alloc, sources[mark.number_of_module].text)?;
-    match line_of(&lines, mark.part) {
-        Some(line) => Ok(line),
-        // Each part has a line: no clause of `source_lines` says that its tables have an entry for each procedure and each
-        // statement of the module, and none of `stack_marks` that parts have numbers of these.
-        None => Err(AllocError),
-    }
+    let lines = source_lines(alloc, text)?;
+    Ok(line_of(&lines, part))
 }
 
 // The text of the line from which an instruction of the interpreter comes.
@@ -60,13 +59,15 @@ fn interpreted_text(
     at: usize,
 ) -> Result<String, AllocError>
     requires sources { All IsSource (texts_of sources.now) }
+    requires program { IsProgramOf (texts_of sources.now) (program_modules built.now.program) }
     requires as_many { length sources.now ≡ length (modules_of built.now.program) }
     requires some { 0 < length (modules_of built.now.program) }
     ensures { IfOk result (λ text. NamesLine (module_names built.now.program) text.bytes.items) }
 {
     let marks = stack_marks(alloc, built.program(), built.placement())?;
     let mark = part_at(marks.as_slice(), at);
-    let line = marked_line(alloc, sources, mark)?;
+    let source = sources[mark.number_of_module];
+    let line = marked_line(alloc, source.text, mark.part)?;
     line_text(alloc, built.program(), mark.number_of_module, line)
 }
 

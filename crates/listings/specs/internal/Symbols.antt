@@ -54,6 +54,14 @@ abbrev pub line_of : ModuleView → (number : ℕ) → (place : Option ℕ) → 
 line_of view number None = []
 line_of view number (Some place) = source_line (typed_of view).name view.code_base (number, place)
 
+-- places of code, each in that of a module, after its constants, or at its end
+abbrev pub ArePlacesIn : ModuleView → List (Option ℕ) → Type 0
+ArePlacesIn view places = AllByRecursion (λ (place : Option ℕ). IfSome place (IsPlaceIn view)) places
+
+-- places stay such, where one more is in the code
+abbrev pub KeepsPlaces : (place : ℕ) → (old new : List (Option ℕ)) → Type 0
+KeepsPlaces place old new = (view : ModuleView) → IsPlaceIn view place → ArePlacesIn view old → ArePlacesIn view new
+
 -- the lines of source lines, from a number on and below another
 pub record HasSourceLines (view : ModuleView) (end number : ℕ) (text : List ℕ) : Type 0 where
   pub lines : List (ℕ × ℕ)

@@ -9,11 +9,11 @@ use Rattle.layout.specs.Views.{layout_view}
 use Rattle.layout.specs.Joined.{IsJoined}
 use Rattle.mem80.specs.declared.plan.Plan.{Plan}
 use Rattle.codegen8080.specs.declared.fault.Fault as code_fault
-use Rattle.codegen8080.specs.Marks.{LieInCode}
 use Rattle.sources.specs.Causes.{HasReadCause}
 use Rattle.sources.specs.Reading.{IsSourceOf}
 use Rattle.generation.specs.internal.Measured.{IsNotMade}
 use Rattle.generation.specs.internal.Typed.{IsSoundlyMade}
+use Rattle.generation.specs.Marks.{LieInModule}
 use Rattle.sources.specs.Programs.{HasProgramCause, program_modules}
 use Rattle.tool.specs.declared.compiled.Compiled.{Compiled}
 use Rattle.tool.specs.declared.fault.ToolFault.{ToolFault}
@@ -34,7 +34,7 @@ pub record IsCompiled (text : List ℕ) (compiled : Compiled) : Type 0 where
   pub source : IsSourceOf text (module_in compiled)
   pub storage : layout_view compiled.source.storage ≡ storage_with (module_in compiled)
   pub made : IsSoundlyMade (module_in compiled) compiled.object
-  pub marked : LieInCode compiled.object compiled.marks.items
+  pub marked : LieInModule compiled.marks (module_in compiled) compiled.object
 
 -- texts are compiled to these, one by one
 abbrev pub AreCompiled : List (List ℕ) → List Compiled → Type 0

@@ -26,9 +26,10 @@ abbrev pub IsMadeConstruction : Construction → Type 0
 IsMadeConstruction built =
     IsConstruction built × AreSoundlyMade (program_modules built.program) built.objects
 
--- what is built is such a construction, and has the marks of each object module
+-- what is built is such a construction, and has the marks of each module
 abbrev pub IsConstructionInside : Inside → Type 0
-IsConstructionInside b = IsMadeConstruction (construction_of b) × LieInEach b.objects.items b.marks.items
+IsConstructionInside b =
+    IsMadeConstruction (construction_of b) × LieInEach (program_modules b.program) b.objects.items b.marks.items
 
 -- a program that was placed, with its object modules and its image
 abbrev pub construction_with : Placed → Plan → List ObjectModule → Absolute → Construction

@@ -10,7 +10,7 @@ returns c =
       steps = c.label-start.new.self;
     } in
     own_code_added c.args.tree.now c.label-start.result.index c.args.generator.now
-    (record (c.args.generator.now) { emission = written }) c.put_main_if_any.new.generator
+    (record (c.args.generator.now) { emission = written; marks = c.begin.new.self }) c.put_main_if_any.new.generator
     c.put_procedures.new.generator
     (subst
     (λ contents. Writes c.args.generator.now.emission.writer c.put_contents.new.writer

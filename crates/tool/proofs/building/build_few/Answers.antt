@@ -22,8 +22,8 @@ build_program-requires-clause-made c =
 pub build_program-requires-clause-marked : goal.build_program-requires-clause-marked
 build_program-requires-clause-marked c =
     marked_all (texts_of c.args.sources.now) c.in_ok-compiled.compiled.items
-    c.in_ok-parts.parts.objects.items c.in_ok-parts.parts.marks.items
-    c.in_ok-compiled.ensures.compiled c.in_ok-parts.ensures.objects c.in_ok-parts.ensures.marks
+    c.in_ok-parts.parts.modules.items c.in_ok-parts.parts.objects.items c.in_ok-parts.parts.marks.items
+    c.in_ok-compiled.ensures.compiled c.in_ok-parts.ensures.modules c.in_ok-parts.ensures.objects c.in_ok-parts.ensures.marks
 
 pub returns-in_err-built-clause-refused : goal.returns-in_err-built-clause-refused
 returns-in_err-built-clause-refused c =

@@ -1,5 +1,6 @@
 use Rattle.tool.proofs.Prelude.{◌≡◌, ℕ, List, length, map, subst, sym, ◌∙◌, length-map, module_view, HaveStorage, plan_view, HaveImage, IsPlacedBy, ObjectModule, IsImageOfObjects, GivesImageOfObjects}
 use Rattle.tool.proofs.SourcesLemmas.{count_fits, have_storage, is_construction, placed_has_image}
+use Rattle.tool.specs.Marks.{LieInEach}
 use Rattle.tool.proofs.building.build_program.Goals as goal
 
 pub place_program-requires-clause-lengths : goal.place_program-requires-clause-lengths
@@ -37,3 +38,8 @@ new-requires-clause-made c =
     c.as_slice-3.ensures.value c.in_ok-image.ensures.linked)
     (subst (λ (objects : List ObjectModule). GivesImageOfObjects c.args.plan.now objects c.in_ok-image.image)
     c.as_slice-3.ensures.value c.in_ok-image.ensures.gives)
+
+pub new-requires-clause-marked : goal.new-requires-clause-marked
+new-requires-clause-marked c =
+    subst (λ modules. LieInEach modules c.args.parts.objects.items c.args.parts.marks.items)
+    (sym c.in-Ok.ensures.placed.program) c.requires.marked

@@ -1,7 +1,7 @@
 use Rattle.tool.proofs.Prelude.{◌≡◌, ◌++◌, drop, map}
-use Rattle.tool.proofs.Lined.{place_of, line_place}
+use Rattle.tool.specs.Marks.{mark_of}
 use Rattle.tool.proofs.marking.with_lines.Given as goal
 
--- the places so far, and those of the marks that are left, are all
+-- the marks so far, and those that are left, are all
 abbrev pub invariant-loop-mark : goal.invariant-loop-mark
-invariant-loop-mark l = map line_place l.lined.items ++ map place_of (drop l.mark-index l.marks) ≡ map place_of l.marks
+invariant-loop-mark l = map mark_of l.lined.items ++ drop l.mark-index l.marks ≡ l.marks
