@@ -75,7 +75,7 @@ mark_size : (found : Option ℕ) (made : Item) → option_map items.Mark found �
 mark_size (Some label) made is = ap size_of (sym (same_Some (items.Mark label) made is))
 mark_size None made is = absurd (none-some made is)
 
-item_size : (written : Written) (item made : Item) → numbered_item written item ≡ Some made
+pub item_size : (written : Written) (item made : Item) → numbered_item written item ≡ Some made
     → size_of made ≡ size_of item
 item_size written (items.WithWord form reference) made is =
     with_word_size form (numbered_reference written reference) made is

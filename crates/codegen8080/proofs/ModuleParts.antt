@@ -1,10 +1,10 @@
 -- The code of a module, from the code of its parts.
-use Rattle.codegen8080.proofs.Prelude.{◌≡◌, ℕ, zero, suc, ◌+◌, inl, inr, Bool, true, false, List, length-replicate, replicate, slice_index_or, [], ◌∷◌, ◌++◌, Option, Some, None, Result, Ok, Err, OnOk, slice_get, length, take, drop, ◌-◌, ◌<◌, arith, refl, sym, ap, subst, ◌∙◌, append_assoc, append-nil, add-one, option_map, none-some, Item, Routine, Content, TreeModule, ProcedureKind, TreeProcedure, Extends, entry, no_facts, label_after, Written, Writes, in_front, items_stay, writes_nothing, writes_then, has_routine, index_of_routine, module_routine_label, HasAll, IsEmpty, NotesCalled, has_itself, none_noted, notes_then, Generator, LabelledList, LabelledSteps, AreRoutines, IsCodeOfRoutine, IsCodeWritten, IsMainCode, IsMainLabelled, IsOwnCode, IsProcedureCode, IsProcedureLabelled, all_routines, content_items, contents_items, has_main, entry_labels, entry_steps, AddsCalled, AddsCodeOfMain, AddsMain, AddsOwnCode, AddsProcedure, AddsProcedures, AddsRoutineIf, AddsRoutines, LabelledCode, LabelledCodeOfMain, LabelledEnd, LabelledProcedure, LabelledProcedures, same_Some, nothing_there}
+use Rattle.codegen8080.proofs.Prelude.{◌≡◌, ℕ, suc, ◌+◌, inl, inr, Bool, true, false, List, length-replicate, [], ◌∷◌, ◌++◌, Option, Some, None, Result, Ok, Err, OnOk, slice_get, length, take, drop, ◌-◌, ◌<◌, arith, refl, sym, ap, subst, ◌∙◌, append_assoc, append-nil, add-one, option_map, none-some, Item, Routine, Content, TreeModule, ProcedureKind, TreeProcedure, Extends, entry, no_facts, label_after, Written, Writes, in_front, items_stay, writes_nothing, writes_then, has_routine, index_of_routine, module_routine_label, HasAll, IsEmpty, NotesCalled, has_itself, none_noted, notes_then, Generator, LabelledList, LabelledSteps, AreRoutines, IsCodeOfRoutine, IsCodeWritten, IsMainCode, IsMainLabelled, IsOwnCode, IsProcedureCode, IsProcedureLabelled, all_routines, content_items, contents_items, has_main, entry_labels, entry_steps, AddsCalled, AddsCodeOfMain, AddsMain, AddsOwnCode, AddsProcedure, AddsProcedures, AddsRoutineIf, AddsRoutines, LabelledCode, LabelledCodeOfMain, LabelledEnd, LabelledProcedure, LabelledProcedures, same_Some, nothing_there}
 use Rattle.std.proofs.Common.{◌==◌, ◌≤◌, ◌⊎◌}
 use Rattle.std.proofs.lemmas.Bool.{cases_lt, eqb-true}
 use Rattle.asm8080.specs.Assembled.{AllBound}
 use Rattle.asm8080.specs.Items.{is_bound}
-use Rattle.steps8080.proofs.{Binding.{true_of}, Numbered.{false_by, not_both}}
+use Rattle.steps8080.proofs.{Binding.{true_of}, Labels.{all_off}, Numbered.{false_by, not_both}}
 use Rattle.steps8080.specs.internal.Writer.{AreWritable, CountsNamed, is_marked, name_label, numbered}
 use Rattle.exprgen8080.specs.internal.Emission.{module_label_of_routine}
 use Rattle.codegen8080.specs.internal.Bodies.{AreFree, IsLabelOf}
@@ -712,12 +712,6 @@ routines_then tree called routines others before between after first second = re
   count = second.count ∙ first.count;
 }
 
--- no routine is called
-no_flag : (count index : ℕ) → slice_index_or (replicate count false) index false ≡ true → ⊥
-no_flag zero index given = let no : false ≡ true = given in cc
-no_flag (suc count) zero given = let no : false ≡ true = given in cc
-no_flag (suc count) (suc index) given = no_flag count index given
-
 -- the labels of routines that are numbered from an index on
 abbrev AreIndexed : (index : ℕ) → List Routine → Type 0
 AreIndexed index [] = Unit {0}
@@ -850,7 +844,7 @@ code_written tree start before between called written after none own called_is w
           ];
       calls = λ routine given.
           elim (own.notes routine given) [
-            | inl old ↦ absurd (no_flag 9 (index_of_routine routine)
+            | inl old ↦ absurd (all_off 9 (index_of_routine routine)
                 (ap (λ flags. has_routine flags routine) (sym none.called) ∙ old))
             | inr is_called ↦ is_called
           ];

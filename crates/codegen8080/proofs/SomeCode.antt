@@ -1,6 +1,5 @@
 -- The code of a statement whose end can't be reached has a byte at least, and so has the code of each procedure.
-use Rattle.codegen8080.proofs.Prelude.{◌≡◌, ◌⊎◌, inl, inr, ℕ, ◌<◌, ◌∙◌, Bool, true, false, not, if◌then◌else◌, List, [], ◌∷◌, ◌++◌, Option, Some, None, slice_get, same_Some, refl, sym, ap, subst, arith, or_parts, Item, Instr, Range, Statement, StatementNumber, TreeModule, TreeProcedure, ProcedureKind, Facts, Site, Body, Planned, Here, size_of_items, AreWritten, PlainWritten, AreAllCarriedOut, AreCarriedOut, HoldsNoStatement, IsCarriedOut, IsListCarriedOut, ListCarriedOut, ListPlanned, MoreStatements, NoStatements, NoneCarriedOut, StatementCarriedOut, StatementPlanned, StepCarriedOut, IsEndCode, IsProcedureCode, site_of, carried_steps, knowing, statement_steps, end_steps}
-use Rattle.std.specs.Option.{option_map_or}
+use Rattle.codegen8080.proofs.Prelude.{◌≡◌, ◌⊎◌, inl, inr, ℕ, ◌<◌, ◌∙◌, Bool, true, false, not, if◌then◌else◌, List, [], ◌∷◌, ◌++◌, Option, Some, None, same_Some, refl, sym, ap, subst, arith, or_parts, Item, Instr, Range, Statement, StatementNumber, TreeModule, TreeProcedure, ProcedureKind, Facts, Site, Body, Planned, Here, size_of_items, AreWritten, PlainWritten, AreAllCarriedOut, AreCarriedOut, HoldsNoStatement, IsCarriedOut, IsListCarriedOut, ListCarriedOut, ListPlanned, MoreStatements, NoStatements, NoneCarriedOut, StatementCarriedOut, StatementPlanned, StepCarriedOut, IsEndCode, IsProcedureCode, site_of, carried_steps, knowing, statement_steps, end_steps}
 use Rattle.std.specs.Prelude.{nat_eq, ◌%◌, length}
 use Rattle.isa8080.specs.declared.instr.Instr.TheVariants as instrs
 use Rattle.asm8080.proofs.CodeInParts.{size_in_parts}
@@ -9,7 +8,6 @@ use Rattle.layout.specs.Storage.{Storage}
 use Rattle.typed_trees.specs.TypedTrees.{TypedElse, TypedList, TypedProcedure, TypedStatement, TypedStatements}
 use Rattle.trees.specs.declared.declaration.ScalarType.{ScalarType}
 use Rattle.trees.specs.declared.declaration.ScalarType.TheVariants as scalars
-use Rattle.treecode.specs.declared.expression.Expression.{Expression}
 use Rattle.treecode.specs.declared.expression.ExpressionNumber.{ExpressionNumber}
 use Rattle.treecode.specs.declared.place.Home.{Home}
 use Rattle.treecode.specs.declared.place.Place.{Place}
@@ -17,14 +15,13 @@ use Rattle.treecode.specs.declared.procedure.ProcedureKind.TheVariants as kinds
 use Rattle.treecode.specs.internal.Known.{known_number}
 use Rattle.treecode.specs.internal.Lowered.{AreMoreStatements, AreNoStatements, AreStatements, HasBody, IsAssignment, IsCall, IsCase, IsDo, IsElse, IsGoto, IsHalt, IsIf, IsIterate, IsLabel, IsList, IsListOf, IsMove, IsNoElse, IsNull, IsReturn, IsSomeElse, IsStatement, IsStatementForm, IsStatementNode, IsWhile, ends_by, labels_numbered_in_list, reaches_end, reaches_end_of_else, reaches_end_of_list, reaches_end_of_statements}
 use Rattle.treecode.specs.internal.Nodes.{nodes_of}
-use Rattle.treecode.specs.internal.Traits.{KeepTraits, known_at, no_traits}
+use Rattle.treecode.specs.internal.Traits.{KeepTraits}
 use Rattle.treecode.proofs.KeptValues.{known_kept}
 use Rattle.steps8080.proofs.Numbered.{not_both}
+use Rattle.steps8080.proofs.SiteTraits.{number_is}
 use Rattle.steps8080.specs.declared.step.LabelNumber.{LabelNumber}
 use Rattle.steps8080.specs.declared.step.Step.TheVariants as steps
 unfoldable use Rattle.steps8080.specs.internal.Queries.{known, number}
-unfoldable use Rattle.steps8080.specs.internal.Site.{expression}
-use Rattle.treecode.specs.internal.Queries.{place_number}
 use Rattle.exprgen8080.specs.internal.Emission.{JumpWritten}
 use Rattle.statements8080.specs.declared.plan.Planned.TheVariants as planned
 use Rattle.statements8080.specs.internal.Branches.{branch, both_steps, computed_if_steps, either_steps, forever_steps, goto_label, if_steps, statement_if_any, tested_if_steps, tested_while_steps, while_steps}
@@ -141,27 +138,6 @@ fill_first : (body : Body) (called : List Bool) (first others : List Planned) �
 fill_first body called [] others some = absurd some
 fill_first body called (step ∷ first) others (inl this) = inl this
 fill_first body called (step ∷ first) others (inr later) = inr (fill_first body called first others later)
-
--- a number that is known at a site is one of the traits of tree code
-known_is : (site : Site) (of : ExpressionNumber) → known site of ≡ known_at (nodes_of site.tree.now) of
-unfolding known expression
-known_is site of = by (slice_get site.tree.now.expressions.items of.index)
-  where
-    by : (found : Option Expression)
-        → elim found [ Some one ↦ one.traits.known | None ↦ None ]
-        ≡ (option_map_or (λ (one : Expression). one.traits) found no_traits).known
-    by (Some one) = refl
-    by None = refl
-
-number_of_known : (found : Option Place)
-    → elim found [ Some place ↦ place_number place | None ↦ None ] ≡ known_number found
-number_of_known (Some place) = refl
-number_of_known None = refl
-
-number_is : (site : Site) (of : ExpressionNumber) → number site of ≡ known_number (known_at (nodes_of site.tree.now) of)
-unfolding number
-number_is site of =
-    number_of_known (known site of) ∙ ap (λ (found : Option Place). known_number found) (known_is site of)
 
 -- the second statement of an IF
 abbrev ElseFills : (body : Body) (called : List Bool) → Option StatementNumber → Type 0

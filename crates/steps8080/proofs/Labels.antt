@@ -61,7 +61,7 @@ cut_same (flag ∷ others) (suc size) count (suc number) low =
     cut_same others size count number (omega (arith, low))
 
 -- no flag is set by that
-all_off : (count number : ℕ) → slice_index_or (replicate count false) number false ≡ true → ⊥
+pub all_off : (count number : ℕ) → slice_index_or (replicate count false) number false ≡ true → ⊥
 all_off count number given = let no : false ≡ true = sym (all_clear count number) ∙ given in cc
 
 cut_kept : (flags : List Bool) (size count number : ℕ)

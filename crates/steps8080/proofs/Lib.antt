@@ -4,3 +4,4 @@ pub mod Numbered
 pub mod Binding
 pub mod Refused
 pub mod Kept
+pub mod SiteTraits

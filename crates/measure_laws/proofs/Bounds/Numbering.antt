@@ -1,33 +1,6 @@
 -- Items have the same size with the code's numbers for their labels and names.
-use Rattle.measure_laws.proofs.Prelude.{◌≡◌, ℕ, ◌+◌, List, [], ◌∷◌, Option, Some, None, refl, sym, ap, arith, option_map, same_Some, Item, WordForm, size_of, size_of_items, entry, Written, in_front, numbered, numbered_item, numbered_reference}
-use Rattle.asm8080.specs.declared.item.Item.TheVariants as items
-use Rattle.asm8080.specs.declared.item.Reference.{Reference}
-
-with_word_size :
-    (form : WordForm) (found : Option Reference) (made : Item)
-    → option_map (items.WithWord form) found ≡ Some made
-    → size_of made ≡ 3
-with_word_size form (Some reference) made is =
-    ap size_of (sym (same_Some (items.WithWord form reference) made is))
-with_word_size form None made is = let never : ⊥ = cc in absurd never
-
-address_size :
-    (found : Option Reference) (made : Item) → option_map items.Address found ≡ Some made → size_of made ≡ 2
-address_size (Some reference) made is = ap size_of (sym (same_Some (items.Address reference) made is))
-address_size None made is = let never : ⊥ = cc in absurd never
-
-mark_size : (found : Option ℕ) (made : Item) → option_map items.Mark found ≡ Some made → size_of made ≡ 0
-mark_size (Some label) made is = ap size_of (sym (same_Some (items.Mark label) made is))
-mark_size None made is = let never : ⊥ = cc in absurd never
-
-item_size : (written : Written) (item made : Item) → numbered_item written item ≡ Some made
-    → size_of made ≡ size_of item
-item_size written (items.WithWord form reference) made is =
-    with_word_size form (numbered_reference written reference) made is
-item_size written (items.Address reference) made is =
-    address_size (numbered_reference written reference) made is
-item_size written (items.Mark label) made is = mark_size (entry written.labels label) made is
-item_size written item made is = ap size_of (sym (same_Some item made is))
+use Rattle.measure_laws.proofs.Prelude.{◌≡◌, ◌+◌, List, [], ◌∷◌, Option, Some, None, refl, sym, ap, arith, same_Some, Item, size_of, size_of_items, Written, in_front, numbered, numbered_item}
+use Rattle.codegen8080.proofs.BegunCode.{item_size}
 
 front_size :
     (item : Item) (others made : List Item) (one : Option Item) (rest : Option (List Item))

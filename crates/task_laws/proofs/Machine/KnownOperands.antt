@@ -5,7 +5,8 @@ use Rattle.trees.specs.declared.expression.BinaryOperator.TheVariants as operato
 use Rattle.meaning.specs.Outcomes.{State}
 use Rattle.treecode.specs.declared.expression.ExpressionForm.TheVariants as forms
 use Rattle.treecode.specs.declared.place.Home.TheVariants as homes
-use Rattle.task_laws.proofs.Machine.SiteNodes.{have_operands, known_is, number_is, place_of_number}
+use Rattle.steps8080.proofs.SiteTraits.{known_is, number_is}
+use Rattle.task_laws.proofs.Machine.SiteNodes.{have_operands, place_of_number}
 
 -- a known number is a known place
 pub number_known :

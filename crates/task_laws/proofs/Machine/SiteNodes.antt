@@ -1,6 +1,7 @@
 -- The queries of code about nodes, in terms of trees.
-use Rattle.task_laws.proofs.Prelude.{◌≡◌, ℕ, ◌&&◌, ◌||◌, true, false, Option, Some, None, is_some, slice_get, refl, sym, ap, ◌∙◌, length, subst, option_map_or, TypedModule, TypedExpression, NumberNode, ValueNode, LocationNode, ListNode, ConversionNode, AssignmentNode, UnaryNode, BinaryNode, CallNode, FunctionNode, ShiftNode, InputNode, TypedReference, PartOf, Subscript, NoSubscript, At, TypesHold, TypesHoldInReference, TypesHoldInSubscript, Within, value, SourceState, Ended, More, Outside, Outcome, Gave, Stopped, State, Expression, ExpressionNumber, Place, Number, Code, Data, External, known_number, IsExpression, nodes_of, place_number, HaveOperands, PartHasOperands, SubscriptHasOperands, free_at, known_at, no_traits, number_at, quiet_at, storing_nothing_at, known_kept, AreAlike, AreSame, BothOutside, GoesOutside, IsQuiet, exchanged, in_order, quiet_kept, known_gives, operands_exchanged, quiet_value, Does, Loaded, place_at, Site, expression, is_free, is_quiet, known, may_exchange, number, stores_nothing, Facts, knowing, Context, IsSound, nodes_in}
+use Rattle.task_laws.proofs.Prelude.{◌≡◌, ℕ, ◌&&◌, ◌||◌, true, false, Option, Some, None, is_some, slice_get, refl, sym, ap, ◌∙◌, length, subst, option_map_or, TypedModule, TypedExpression, NumberNode, ValueNode, LocationNode, ListNode, ConversionNode, AssignmentNode, UnaryNode, BinaryNode, CallNode, FunctionNode, ShiftNode, InputNode, TypedReference, PartOf, Subscript, NoSubscript, At, TypesHold, TypesHoldInReference, TypesHoldInSubscript, Within, value, SourceState, Ended, More, Outside, Outcome, Gave, Stopped, State, Expression, ExpressionNumber, Place, Number, Code, Data, External, known_number, IsExpression, nodes_of, HaveOperands, PartHasOperands, SubscriptHasOperands, free_at, known_at, no_traits, quiet_at, storing_nothing_at, known_kept, AreAlike, AreSame, BothOutside, GoesOutside, IsQuiet, exchanged, in_order, quiet_kept, known_gives, operands_exchanged, quiet_value, Does, Loaded, place_at, Site, expression, is_free, is_quiet, known, may_exchange, number, stores_nothing, Facts, knowing, Context, IsSound, nodes_in}
 use Rattle.treecode_laws.specs.internal.Evaluations as evaluations
+use Rattle.steps8080.proofs.SiteTraits.{known_is, number_is}
 use Rattle.task_laws.proofs.Machine.Stages.{does_same}
 
 -- operands of the types that are asked of them are those that known values ask for
@@ -46,16 +47,6 @@ mutual
   subscript_has_operands typed within (At stride count index) hold = have_operands typed within index hold.0
 
 -- the traits of a node at a site are those of tree code
-pub known_is : (site : Site) (of : ExpressionNumber) → known site of ≡ known_at (nodes_of site.tree.now) of
-unfolding known expression
-known_is site of = by (slice_get site.tree.now.expressions.items of.index)
-  where
-    by : (found : Option Expression)
-        → elim found [ Some one ↦ one.traits.known | None ↦ None ]
-        ≡ (option_map_or (λ (one : Expression). one.traits) found no_traits).known
-    by (Some one) = refl
-    by None = refl
-
 pub quiet_is : (site : Site) (of : ExpressionNumber) → is_quiet site of ≡ quiet_at (nodes_of site.tree.now) of
 unfolding is_quiet expression
 quiet_is site of = by (slice_get site.tree.now.expressions.items of.index)
@@ -87,16 +78,6 @@ free_is site of = by (slice_get site.tree.now.expressions.items of.index)
         ≡ (option_map_or (λ (one : Expression). one.traits) found no_traits).is_free
     by (Some one) = refl
     by None = refl
-
-number_of_known : (found : Option Place)
-    → elim found [ Some place ↦ place_number place | None ↦ None ] ≡ known_number found
-number_of_known (Some place) = refl
-number_of_known None = refl
-
-pub number_is : (site : Site) (of : ExpressionNumber) → number site of ≡ number_at (nodes_of site.tree.now) of
-unfolding number
-number_is site of =
-    number_of_known (known site of) ∙ ap (λ (found : Option Place). known_number found) (known_is site of)
 
 -- a number that is known is a known place
 pub place_of_number : (found : Option Place) (n : ℕ) → known_number found ≡ Some n → found ≡ Some (Number n)

@@ -3,7 +3,7 @@ use Rattle.task_laws.proofs.Prelude.{◌≡◌, ℕ, ◌*◌, ◌%◌, true, Opt
 use Rattle.treecode.specs.declared.place.Home.TheVariants as homes
 use Rattle.steps8080.specs.internal.Queries.{located, location_at}
 use Rattle.task_laws.proofs.Machine.KeptCode.{place_known}
-use Rattle.task_laws.proofs.Machine.SiteNodes.{number_is}
+use Rattle.steps8080.proofs.SiteTraits.{number_is}
 
 -- a subscript that is known is not computed
 pub not_computed :
