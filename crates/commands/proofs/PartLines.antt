@@ -5,11 +5,11 @@ use Rattle.std.proofs.lemmas.Option.{none-some, same_Some, slice_get-get_or}
 use Rattle.std.specs.Prelude.{Contains, IsSomeAnd}
 use Rattle.typed_trees.specs.TypedTrees.{TypedModule}
 use Rattle.join.specs.declared.joined.Joined.{Joined}
-use Rattle.stack_compiler.specs.internal.Counted.{AreInModules, IsInModule, IsPartOf, numbered_module}
-use Rattle.stack_compiler.specs.internal.Marked.{AreOfModules}
-use Rattle.stack_compiler.specs.declared.marking.StackMark.{StackMark}
-use Rattle.stack_compiler.specs.declared.marking.StackPart.{StackPart}
-use Rattle.stack_compiler.specs.declared.marking.StackPart.TheVariants.{Main, Procedure, Statement}
+use Rattle.interpreter.specs.internal.Counted.{AreInModules, IsInModule, IsPartOf, numbered_module}
+use Rattle.interpreter.specs.internal.Marked.{AreOfModules}
+use Rattle.interpreter.specs.internal.StackMark.{StackMark}
+use Rattle.interpreter.specs.internal.StackPart.{StackPart}
+use Rattle.interpreter.specs.internal.StackPart.TheVariants.{Main, Procedure, Statement}
 use Rattle.sources.proofs.OneSource.{same_tree}
 use Rattle.sources.specs.Programs.{AreSourcesOf, IsProgramOf, program_modules, texts_of}
 use Rattle.sources.specs.Reading.{IsSourceOf}

@@ -8,12 +8,12 @@ use Rattle.typed_trees.specs.TypedTrees.{MoreStatements as MoreTyped, TypedElse,
 use Rattle.typing.specs.Blocks.{Block, Progress}
 use Rattle.typing.specs.Statements.{after_labels}
 use Rattle.typing.specs.internal.Untyped.{bodies_in, bodies_in_declaration, bodies_in_else, bodies_in_kind, bodies_in_statement, bodies_in_statements}
-use Rattle.stack_compiler.specs.internal.Counted.{numbered_bodies, numbered_body, numbered_else, numbered_list, numbered_module, numbered_parts, numbered_statements}
-use Rattle.trees.specs.Trees.{DeclarationTree, DeclarationTrees, ElementTree, ElseTree, HeadingTree, ModuleTree, StatementKindTree, StatementTree, StatementTrees}
+use Rattle.interpreter.specs.internal.Counted.{numbered_bodies, numbered_body, numbered_else, numbered_list, numbered_module, numbered_parts, numbered_statements}
+use Rattle.sources.specs.Trees.{DeclarationTree, DeclarationTrees, ElementTree, ElseTree, HeadingTree, ModuleTree, StatementKindTree, StatementTree, StatementTrees}
 use Rattle.sources.specs.internal.Counted.{count_of_else, count_of_parts, count_of_statement, count_of_statements, procedures_in, statements_in}
-use Rattle.typing_rules.specs.Items.{ElementTyping, a_definition, of_item, ElementsTyping, no_more_elements, next_element, ObjectsTyping, no_objects, next_object}
-use Rattle.typing_rules.specs.Modules.{StatementTyping, null, assignment, call, move, return, return_value, halt, goto, if_then, simple_do, do_while, iterative_do, do_case, AloneTyping, unlabelled, ElseTyping, no_else, with_else, CasesTyping, no_case, next_case, StatementsTyping, no_statement, next_statement, ListTyping, list, DeclarationTyping, declare, procedure, DeclarationsTyping, no_declaration, next_declaration, ModuleTyping, whole}
-use Rattle.typing_rules.specs.Procedures.{HeadingTyping, heading_stands}
+use Rattle.sources.specs.internal.Items.{ElementTyping, a_definition, of_item, ElementsTyping, no_more_elements, next_element, ObjectsTyping, no_objects, next_object}
+use Rattle.sources.specs.internal.Modules.{StatementTyping, null, assignment, call, move, return, return_value, halt, goto, if_then, simple_do, do_while, iterative_do, do_case, AloneTyping, unlabelled, ElseTyping, no_else, with_else, CasesTyping, no_case, next_case, StatementsTyping, no_statement, next_statement, ListTyping, list, DeclarationTyping, declare, procedure, DeclarationsTyping, no_declaration, next_declaration, ModuleTyping, whole}
+use Rattle.sources.specs.internal.Procedures.{HeadingTyping, heading_stands}
 
 -- labels before statements are statements
 labels_numbered : (label : ℕ) (labels : List _) (rest : TypedStatements)

@@ -27,7 +27,7 @@ use Rattle.codegen8080.specs.Marks.{BeginInCode, BeginsWithin, IsNamedAt, LieInC
 use Rattle.codegen8080.specs.declared.module.CodeMarks.{CodeMarks}
 use Rattle.codegen8080.specs.internal.Modules.{constant_size, content_items, contents_items}
 use Rattle.measure_laws.specs.internal.Bounds.{size_of_content}
-use Rattle.generation.specs.Marks.{IsNamedBy, LieInModule, OwnBeginsWithin}
+use Rattle.generation.specs.ModuleMarks.{IsNamedBy, LieInModule, OwnBeginsWithin}
 
 -- the items of contents take as many bytes as these
 content_size : (content : Content) → size_of_items (content_items content) ≡ size_of_content content

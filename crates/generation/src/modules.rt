@@ -9,7 +9,7 @@ ghost use Rattle.codegen8080.specs.internal.Sources.{IsOfModule};
 ghost use Rattle.codegen8080.specs.internal.Standing.{BodiesStand};
 ghost use Rattle.codegen8080.specs.internal.Modules.{IsGenerated};
 ghost use Rattle.codegen8080.specs.internal.Marking.{AreMarksOf};
-ghost use Rattle.generation.specs.Marks.{LieInModule};
+ghost use Rattle.generation.specs.ModuleMarks.{LieInModule};
 ghost use Rattle.codegen8080.specs.internal.Names.{IsLinkable};
 ghost use Rattle.codegen8080.specs.internal.Refusals.{MayRefuse};
 ghost use Rattle.image_laws.specs.Objects.{IsObjectOf};

@@ -6,7 +6,7 @@ use Rattle.codegen8080.specs.Marks.{IsBefore, LiesWithin, StandFor}
 use Rattle.codegen8080.specs.declared.marking.CodePart.{CodePart}
 use Rattle.codegen8080.specs.declared.marking.CodePart.TheVariants as parts
 use Rattle.codegen8080.specs.declared.module.CodeMarks.{CodeMarks}
-use Rattle.generation.specs.Marks.{IsNamedBy, LieInModule, OwnBeginsWithin}
+use Rattle.tool.specs.ModuleMarks.{IsNamedBy, LieInModule, OwnBeginsWithin}
 use Rattle.typed_trees.specs.declared.parts.Visibility.{Visibility}
 use Rattle.typed_trees.specs.declared.parts.Visibility.TheVariants as visibilities
 use Rattle.tool.specs.Marks.{LieInEach, mark_of}

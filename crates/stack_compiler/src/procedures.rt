@@ -172,7 +172,10 @@ pub(crate) fn emit_main(
     ensures code { OnOk result (code.new.items ≡ code.old.items
         ++ main_code (map module_view program.now.modules.now) (placement_view program.now.placement.now)
         (number_of_module, module_view typed.now)) }
-    ensures numbers { OnOk result (Numbers 0 (numbered_list (list_view typed.now.main.body)) marks.old marks.new) }
+    ensures numbers { OnOk result (Numbers 0
+        (numbered_list (list_view typed.now.main.body))
+        marks.old
+        marks.new) }
 {
     let site = Site {
         alloc,

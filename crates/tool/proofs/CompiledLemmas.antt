@@ -9,7 +9,7 @@ unfoldable use Rattle.generation.specs.internal.TreeCode.{KeepsNames}
 use Rattle.sources.specs.GlobalNames.{GlobalNamesDiffer}
 use Rattle.sources.specs.declared.sources.Source as declared_source
 use Rattle.codegen8080.specs.declared.module.CodeMarks.{CodeMarks}
-use Rattle.generation.specs.Marks.{LieInModule}
+use Rattle.generation.specs.ModuleMarks.{LieInModule}
 
 pub has_source : (text : List ℕ) (typed : TypedModule) → IsSourceOf text typed → HasSource typed
 has_source text typed source = record { text = text; source = source }

@@ -8,6 +8,7 @@ pub use Rattle.sources.specs.Programs
 pub use Rattle.printing.specs.Printing
 pub use Rattle.generation.specs.Agreement
 pub use Rattle.generation.specs.MemoryAtEnd
+pub use Rattle.generation.specs.ModuleMarks
 pub mod Image
 pub mod Headline
 pub mod Made

@@ -4,7 +4,7 @@ use Rattle.object_modules.specs.Module.{ObjectModule}
 use Rattle.typed_trees.specs.TypedTrees.{TypedModule}
 use Rattle.codegen8080.specs.declared.marking.Mark.{Mark}
 use Rattle.codegen8080.specs.declared.module.CodeMarks.{CodeMarks}
-use Rattle.generation.specs.Marks.{LieInModule}
+use Rattle.generation.specs.ModuleMarks.{LieInModule}
 use Rattle.tool.specs.declared.marking.SourceMark.{SourceMark}
 
 -- a mark with its line, without that

@@ -9,7 +9,7 @@ ghost use Rattle.sources.specs.Reading.{IsSourceOf};
 ghost use Rattle.object_modules.specs.Module.{length_of};
 ghost use Rattle.object_modules.specs.declared.segment.Segment.TheVariants as segments;
 ghost use Rattle.generation.specs.internal.Typed.{IsSoundlyMade};
-ghost use Rattle.generation.specs.Marks.{LieInModule};
+ghost use Rattle.generation.specs.ModuleMarks.{LieInModule};
 ghost use Rattle.sources.specs.GlobalNames.{GlobalNamesDiffer};
 ghost use Rattle.sources.specs.Sound.{IsSoundlyTyped};
 ghost use Rattle.sources.specs.Programs.{texts_of};

@@ -1,7 +1,7 @@
 -- Parts of the code of the interpreter that have a line.
 use Rattle.std.specs.Prelude.{ℕ, List, length}
-use Rattle.stack_compiler.specs.internal.Counted.{IsPartOf}
-use Rattle.stack_compiler.specs.declared.marking.StackPart.{StackPart}
+use Rattle.interpreter.specs.internal.Counted.{IsPartOf}
+use Rattle.interpreter.specs.internal.StackPart.{StackPart}
 use Rattle.sources.specs.declared.lines.SourceLines.{SourceLines}
 use Rattle.sources.specs.internal.Counted.{AreLinesOf}
 

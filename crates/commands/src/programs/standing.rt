@@ -2,7 +2,7 @@
 
 ghost use Rattle.std.specs.Prelude.{◌≡◌, ◌<◌, length, All, Contains, IfOk, Some, true};
 ghost use Rattle.join.specs.Views.{modules_of};
-ghost use Rattle.stack_compiler.specs.internal.Marked.{first_place};
+ghost use Rattle.interpreter.specs.internal.Marked.{first_place};
 ghost use Rattle.sources.specs.Programs.{IsProgramOf, program_modules, texts_of};
 ghost use Rattle.sources.specs.Reading.{IsSource};
 ghost use Rattle.commands.specs.internal.PartLines.{HasLine, HasLineIn};

@@ -13,7 +13,7 @@ use Rattle.sources.specs.Causes.{HasReadCause}
 use Rattle.sources.specs.Reading.{IsSourceOf}
 use Rattle.generation.specs.internal.Measured.{IsNotMade}
 use Rattle.generation.specs.internal.Typed.{IsSoundlyMade}
-use Rattle.generation.specs.Marks.{LieInModule}
+use Rattle.generation.specs.ModuleMarks.{LieInModule}
 use Rattle.sources.specs.Programs.{HasProgramCause, program_modules}
 use Rattle.tool.specs.declared.compiled.Compiled.{Compiled}
 use Rattle.tool.specs.declared.fault.ToolFault.{ToolFault}

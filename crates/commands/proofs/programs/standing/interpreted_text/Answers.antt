@@ -4,8 +4,8 @@ use Rattle.join.specs.Views.{modules_of}
 use Rattle.join.specs.declared.joined.Joined.{Joined}
 use Rattle.listings.proofs.ViewsMade.{source_at}
 use Rattle.sources.specs.Programs.{program_modules}
-use Rattle.stack_compiler.specs.internal.Counted.{AreInModules}
-use Rattle.stack_compiler.specs.internal.Marked.{AreOfModules}
+use Rattle.interpreter.specs.internal.Counted.{AreInModules}
+use Rattle.interpreter.specs.internal.Marked.{AreOfModules}
 use Rattle.commands.proofs.PartLines.{mark_has_line, mark_within}
 use Rattle.commands.proofs.programs.standing.interpreted_text.Goals as goal
 
