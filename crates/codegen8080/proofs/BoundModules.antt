@@ -10,6 +10,7 @@ use Rattle.typed_trees.specs.Jumps.{JumpsAreSound, labels_in_list, labels_in_mod
 use Rattle.typed_trees.specs.TypedTrees.{TypedModule, TypedProcedure}
 use Rattle.treecode.specs.internal.Lowered.{HasBody, IsList, IsLowered, labels_numbered_in_list}
 use Rattle.treecode.specs.internal.Nodes.{nodes_of}
+use Rattle.treecode.proofs.OwnNames.{item_within}
 use Rattle.treecode.specs.internal.Rising.{NumbersRise}
 use Rattle.treecode.specs.declared.module.Content.TheVariants as contents
 use Rattle.treecode.specs.declared.place.Place.{Place}
@@ -21,7 +22,7 @@ use Rattle.exprgen8080.specs.internal.Emission.{first_label}
 use Rattle.exprgen8080.specs.internal.Marks.{Differ, IsIn}
 use Rattle.codegen8080.specs.internal.Modules.{AreCodeOf, AreProceduresLabelled, IsCodeLabelled, IsCodeOf, IsCodeOfMain, IsCodeOfMainLabelled, IsEndCode, IsEndLabelled, IsOwnLabelled}
 use Rattle.codegen8080.specs.internal.Sources.{IsOfModule}
-use Rattle.codegen8080.proofs.{BoundLabels.{Ground, IsNamed, PlanBound, TreeBound, as_plan, as_tree, body_bound, form_bound, list_rises, part_before, plan_bound, plan_rises}, DifferentNumbers.{differ_alone, differ_first, differ_later, differ_pairs}, EntryLabels.{entry_form}, FormLabels.{NoParts, TakesLabels, bare_plan}, LoweredStand.{item_within}, Outlines.{end_is_bare}}
+use Rattle.codegen8080.proofs.{BoundLabels.{Ground, IsNamed, PlanBound, TreeBound, as_plan, as_tree, body_bound, form_bound, list_rises, part_before, plan_bound, plan_rises}, DifferentNumbers.{differ_alone, differ_first, differ_later, differ_pairs}, EntryLabels.{entry_form}, FormLabels.{NoParts, TakesLabels, bare_plan}, Outlines.{end_is_bare}}
 
 -- items that bind labels from a number on, and below another
 pub record BindsFrom (low high : ℕ) (list : List Item) : Type 0 where

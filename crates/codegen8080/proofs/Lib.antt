@@ -8,6 +8,8 @@ pub mod Standing
 pub mod PlansStand
 pub mod DifferentNumbers
 pub mod Outlines
+pub mod NamedPlans
+pub mod NamedItems
 pub mod FormLabels
 pub mod BoundLabels
 pub mod EntryLabels

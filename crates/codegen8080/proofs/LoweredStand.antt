@@ -1,18 +1,11 @@
 -- The bodies of lowered tree code stand: so its code can be generated.
-use Rattle.codegen8080.proofs.Prelude.{◌≡◌, ℕ, zero, suc, ◌<◌, List, [], ◌∷◌, length, Some, Result, Ok, Err, IfOk, slice_get, slice_get_within, refl, arith, TreeModule}
+use Rattle.codegen8080.proofs.Prelude.{◌≡◌, ◌<◌, length, Result, Ok, Err, IfOk, slice_get_within, arith, TreeModule}
 use Rattle.typed_trees.specs.TypedTrees.{TypedModule}
 use Rattle.layout.specs.Storage.{Storage}
 use Rattle.treecode.specs.internal.Lowered.{IsLowered}
+use Rattle.treecode.proofs.OwnNames.{item_within}
 use Rattle.codegen8080.proofs.Standing.{list_stands}
 use Rattle.codegen8080.specs.internal.Standing.{BodiesStand}
-
--- an item of a list
-pub item_within : {A : Type 0} (list : List A) (index : ℕ)
-    → index < length list
-    → (found : A) × (slice_get list index ≡ Some found)
-item_within [] index below = absurd (omega (arith, below))
-item_within (first ∷ others) zero below = (first, refl)
-item_within (first ∷ others) (suc index) below = item_within others index (omega (arith, below))
 
 -- each procedure of the tree code has its heading in the module
 pub bodies_stand :

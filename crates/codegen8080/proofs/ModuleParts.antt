@@ -1,11 +1,11 @@
 -- The code of a module, from the code of its parts.
-use Rattle.codegen8080.proofs.Prelude.{◌≡◌, ℕ, suc, ◌+◌, inl, inr, Bool, true, false, List, length-replicate, [], ◌∷◌, ◌++◌, Option, Some, None, Result, Ok, Err, OnOk, slice_get, length, take, drop, ◌-◌, ◌<◌, arith, refl, sym, ap, subst, ◌∙◌, append_assoc, append-nil, add-one, option_map, none-some, Item, Routine, Content, TreeModule, ProcedureKind, TreeProcedure, Extends, entry, no_facts, label_after, Written, Writes, in_front, items_stay, writes_nothing, writes_then, has_routine, index_of_routine, module_routine_label, HasAll, IsEmpty, NotesCalled, has_itself, none_noted, notes_then, Generator, LabelledList, LabelledSteps, AreRoutines, IsCodeOfRoutine, IsCodeWritten, IsMainCode, IsMainLabelled, IsOwnCode, IsProcedureCode, IsProcedureLabelled, all_routines, content_items, contents_items, has_main, entry_labels, entry_steps, AddsCalled, AddsCodeOfMain, AddsMain, AddsOwnCode, AddsProcedure, AddsProcedures, AddsRoutineIf, AddsRoutines, LabelledCode, LabelledCodeOfMain, LabelledEnd, LabelledProcedure, LabelledProcedures, same_Some, nothing_there}
+use Rattle.codegen8080.proofs.Prelude.{◌≡◌, ℕ, suc, ◌+◌, inl, inr, Bool, true, false, List, [], ◌∷◌, ◌++◌, Option, Some, None, Result, Ok, Err, OnOk, slice_get, length, take, drop, ◌-◌, ◌<◌, arith, refl, sym, ap, subst, ◌∙◌, append_assoc, append-nil, add-one, option_map, none-some, Item, Routine, Content, TreeModule, ProcedureKind, TreeProcedure, Extends, entry, no_facts, label_after, Written, Writes, in_front, items_stay, writes_nothing, writes_then, has_routine, index_of_routine, module_routine_label, HasAll, IsEmpty, NotesCalled, has_itself, none_noted, notes_then, Generator, LabelledList, LabelledSteps, AreRoutines, IsCodeOfRoutine, IsCodeWritten, IsMainCode, IsMainLabelled, IsOwnCode, IsProcedureCode, IsProcedureLabelled, all_routines, content_items, contents_items, has_main, entry_labels, entry_steps, AddsCalled, AddsCodeOfMain, AddsMain, AddsOwnCode, AddsProcedure, AddsProcedures, AddsRoutineIf, AddsRoutines, LabelledCode, LabelledCodeOfMain, LabelledEnd, LabelledProcedure, LabelledProcedures, same_Some}
 use Rattle.std.proofs.Common.{◌==◌, ◌≤◌, ◌⊎◌}
 use Rattle.std.proofs.lemmas.Bool.{cases_lt, eqb-true}
 use Rattle.asm8080.specs.Assembled.{AllBound}
 use Rattle.asm8080.specs.Items.{is_bound}
 use Rattle.steps8080.proofs.{Binding.{true_of}, Labels.{all_off}, Numbered.{false_by, not_both}}
-use Rattle.steps8080.specs.internal.Writer.{AreWritable, CountsNamed, is_marked, name_label, numbered}
+use Rattle.steps8080.specs.internal.Writer.{AreWritable, CountsNamed, GrowsFor, is_marked, name_label, numbered}
 use Rattle.exprgen8080.specs.internal.Emission.{module_label_of_routine}
 use Rattle.codegen8080.specs.internal.Bodies.{AreFree, IsLabelOf}
 use Rattle.codegen8080.specs.internal.ItemLabels.{ItemsBind}
@@ -13,6 +13,7 @@ use Rattle.codegen8080.specs.internal.Modules.{IsWrittenWith}
 use Rattle.codegen8080.specs.internal.Sources.{IsOfModule}
 use Rattle.codegen8080.specs.internal.Standing.{AllStand}
 use Rattle.codegen8080.proofs.BoundModules.{contents_unbound, own_code_bound}
+use Rattle.codegen8080.proofs.NamedItems.{contents_named, own_code_named, own_names}
 use Rattle.codegen8080.proofs.PlacedLabels.{all_bound, bound_after, bound_binds, bound_first}
 use Rattle.asm8080.specs.declared.item.Item.TheVariants as items
 use Rattle.treecode.specs.declared.procedure.ProcedureKind.TheVariants as kinds
@@ -436,6 +437,16 @@ one_label_writable before at free = record {
   new = λ label bound. ap (λ (one : ℕ). is_marked before.marked one) (one_label label at bound) ∙ free;
 }
 
+-- a label is no name, so the table of names stays as long as it is
+label_needs_none : (before after : List (Option ℕ)) (at : ℕ)
+    → GrowsFor before after (items.Mark at ∷ [])
+    → length after ≡ length before
+label_needs_none before after at grown =
+    let most : length after ≤ length before = grown.within (length before)
+    (record { below = λ name used. absurd (not_both false used refl) }) (omega arith) in
+    let least : length before ≤ length after = grown.longer in
+    omega (arith, most, least)
+
 -- routines whose labels have no place, after one is added
 free_after :
     (tree : TreeModule) (before after : List Bool) (routines : List Routine) (label : ℕ)
@@ -573,7 +584,9 @@ one_added tree routine true before after writes =
             | inl old ↦ old
             | inr bad ↦ absurd (let no : false ≡ true = bad in cc)
           ];
-      count = ap (λ table. length table) writes.externals ∙ writes.marked.count;
+      count =
+          ap (λ table. length table) writes.externals
+          ∙ label_needs_none before.externals entered.externals at writes.marked.grown;
     }
 
 -- no routine is added
@@ -832,13 +845,18 @@ code_written tree start before between called written after none own called_is w
           routines.added
           ∙ ap (λ list. list ++ routines.list)
           (own.writes.added ∙ ap (λ list. list ++ own.writes.made) nothing);
-      count =
-          routines.count ∙ own.writes.count
-          ∙ ap (λ (written : Written). length written.externals) none.items
-          ∙ length-replicate (length tree.externals.items) None;
+      within =
+          let first : length before.emission.writer.externals ≡ 0 =
+          ap (λ (written : Written). length written.externals) none.items in
+          let same : length after.externals ≡ length between.emission.writer.externals = routines.count in
+          let own_within : length between.emission.writer.externals ≤ length tree.externals.items =
+          own.writes.grown.within (length tree.externals.items)
+          (own_code_named tree made.lowered.order (own_names tree made) between.emission.is_called.items start own.list
+          own.written.0)
+          (omega (arith, first)) in omega (arith, same, own_within);
       names = λ name number given.
           elim (own.writes.names name number (routines.no_names name number given)) [
-            | inl old ↦ absurd (nothing_there (length tree.externals.items) name number
+            | inl old ↦ absurd (none-some number
                 (ap (λ (written : Written). entry written.externals name) (sym none.items) ∙ old))
             | inr used ↦ used
           ];
@@ -912,3 +930,20 @@ code_all_bound tree start before between called written after none own called_is
     (made.placed between.emission.is_called.items start own.list own.written.0)
     (counted_in_both before.emission.writer between.emission.writer after own.list routines.list nothing
     own.writes.counted routines.labels (routines.counted writable.1))
+
+-- the data of a module use no name past its own, if its code uses none
+pub data_within :
+    (tree : TreeModule) (code first variables last : List (Option ℕ))
+    → IsOfModule tree
+    → length code ≤ length tree.externals.items
+    → first ≡ code
+    → GrowsFor first variables (contents_items tree.variables.items)
+    → last ≡ variables
+    → length last ≤ length tree.externals.items
+data_within tree code first variables last made within begun grown ended =
+    let same : length first ≡ length code = ap (λ table. length table) begun in
+    let end : length last ≡ length variables = ap (λ table. length table) ended in
+    let most : length variables ≤ length tree.externals.items =
+    grown.within (length tree.externals.items)
+    (contents_named (length tree.externals.items) tree.variables.items (own_names tree made).variables)
+    (omega (arith, same, within)) in omega (arith, end, most)

@@ -1,5 +1,5 @@
 -- Names that are listed one by one.
-use Rattle.codegen8080.proofs.Prelude.{◌≡◌, ℕ, zero, suc, ◌+◌, ◌-◌, ◌<◌, List, [], ◌∷◌, ◌++◌, Option, Some, None, length, take, drop, slice_get, set, length-set, IfNone, IfSome, refl, sym, ap, subst, ◌∙◌, arith, append_assoc, append-nil, none-some, map, true, false, Public, are_new, is_among, Assembled, ExternalName, Object, Procedure, PublicName, PublicPlace, AreDifferent, IsNumbering, entries, entry, used_names, AreListed, ArePublicsIn, FollowPlaces, HavePlaces, IsPublicIn, used_name, IsPublicHere, Linkage, names_of, names_of_externals, names_of_publics, same_Some}
+use Rattle.codegen8080.proofs.Prelude.{◌≡◌, ℕ, zero, suc, ◌+◌, ◌-◌, ◌<◌, ◌≤◌, List, [], ◌∷◌, ◌++◌, Option, Some, None, length, take, drop, slice_get, set, length-set, IfNone, IfSome, refl, sym, ap, subst, ◌∙◌, arith, append_assoc, append-nil, none-some, map, true, false, Public, are_new, is_among, Assembled, ExternalName, Object, Procedure, PublicName, PublicPlace, AreDifferent, IsNumbering, entries, entry, used_names, AreListed, ArePublicsIn, FollowPlaces, HavePlaces, IsPublicIn, used_name, IsPublicHere, Linkage, names_of, names_of_externals, names_of_publics, same_Some}
 use Rattle.std.specs.List.{AllByRecursion}
 use Rattle.treecode.specs.declared.place.Place.TheVariants as places
 use Rattle.codegen8080.proofs.ModuleParts.{take_all}
@@ -183,16 +183,16 @@ pub placing_ends : (count : ℕ) (numbers : List (Option ℕ)) (places : List �
 placing_ends count numbers places place [] none placing = placing.places_are places (λ number absent. refl) tt
 placing_ends count numbers places place (first ∷ others) none placing = absurd (omega (arith, none))
 
--- the places of as many names
+-- the places of the names that a table has an entry for
 pub places_of_names : (places : List ℕ) (place : ℕ) (numbers : List (Option ℕ))
     (externals : List ExternalName)
-    → length numbers ≡ length externals
+    → length numbers ≤ length externals
     → FollowPlaces places place numbers
     → HavePlaces places place numbers externals
-places_of_names places place [] externals same follow = tt
-places_of_names places place (number ∷ numbers) [] same follow = absurd (omega (arith, same))
-places_of_names places place (number ∷ numbers) (external ∷ externals) same follow =
-    (follow.0, follow.1, places_of_names places follow.0 numbers externals (omega (arith, same)) follow.2)
+places_of_names places place [] externals within follow = tt
+places_of_names places place (number ∷ numbers) [] within follow = absurd (omega (arith, within))
+places_of_names places place (number ∷ numbers) (external ∷ externals) within follow =
+    (follow.0, follow.1, places_of_names places follow.0 numbers externals (omega (arith, within)) follow.2)
 
 used_first :
     (number : Option ℕ) (numbers : List (Option ℕ)) (external : ExternalName) (externals : List ExternalName)
@@ -201,23 +201,23 @@ used_first :
 used_first None numbers external externals = refl
 used_first (Some number) numbers external externals = refl
 
--- Names are being listed; some numbers and as many names remain.
+-- Names are being listed; some numbers and no fewer names remain.
 pub record IsListingNames
     (externals : List ExternalName) (numbers : List (Option ℕ)) (rest : List ExternalName)
     (left : List (Option ℕ)) (names : Linkage) : Type 0 where
   pub names_are : names.externals ++ used_names left rest ≡ used_names numbers externals
-  pub as_many : length left ≡ length rest
+  pub within : length left ≤ length rest
   pub publics : names.publics ≡ []
   pub new : are_new (names_of_externals rest) names.externals ≡ true
 
 pub listing_names_begins : (externals : List ExternalName) (numbers : List (Option ℕ)) (names : Linkage)
-    → length numbers ≡ length externals
+    → length numbers ≤ length externals
     → are_new (names_of_externals externals) [] ≡ true
     → names ≡ record { externals = []; publics = [] }
     → IsListingNames externals numbers externals numbers names
-listing_names_begins externals numbers names as_many new none = record {
+listing_names_begins externals numbers names within new none = record {
   names_are = ap (λ (linkage : Linkage). linkage.externals ++ used_names numbers externals) none;
-  as_many = as_many;
+  within = within;
   publics = ap (λ (linkage : Linkage). linkage.publics) none;
   new = ap (λ (linkage : Linkage). are_new (names_of_externals externals) linkage.externals) none ∙ new;
 }
@@ -273,14 +273,14 @@ listing_names_step externals numbers (first ∷ rest) (known ∷ left) names aft
     let there : external ≡ first = same_Some external first (sym rest_is) in
     let front : used_name number external ≡ used_name known first =
     ap (λ one. used_name one external) here ∙ ap (used_name known) there in
-    let as_many : suc (length left) ≡ suc (length rest) = listing.as_many in
+    let within : suc (length left) ≤ suc (length rest) = listing.within in
     let stepped : IsListingNames externals numbers rest left after = record {
       names_are =
           ap (λ list. list ++ used_names left rest) (more ∙ ap (λ list. names.externals ++ list) front)
           ∙ append_assoc names.externals (used_name known first) (used_names left rest)
           ∙ ap (λ list. names.externals ++ list) (sym (used_first known left first rest))
           ∙ listing.names_are;
-      as_many = omega (arith, as_many);
+      within = omega (arith, within);
       publics = publics;
       new = ap (are_new (names_of_externals rest)) (more ∙ ap (λ list. names.externals ++ list) front)
           ∙ new_after_used known first rest names.externals listing.new;
@@ -304,15 +304,15 @@ listing_names_ends externals numbers rest (known ∷ left) names none listing = 
 pub names_listed :
     (externals : List ExternalName) (table numbers : List (Option ℕ)) (places : List ℕ) (names : Linkage)
     → numbers ≡ table
-    → length table ≡ length externals
+    → length table ≤ length externals
     → FollowPlaces places 0 numbers
     → names.externals ≡ used_names numbers externals
     → names.publics ≡ []
     → AreListed externals table places names
-names_listed externals table numbers places names same as_many follow listed publics = record {
+names_listed externals table numbers places names same within follow listed publics = record {
   names_are = listed ∙ ap (λ one. used_names one externals) same;
   places_are =
-      places_of_names places 0 table externals as_many (subst (λ one. FollowPlaces places 0 one) same follow);
+      places_of_names places 0 table externals within (subst (λ one. FollowPlaces places 0 one) same follow);
   publics = publics;
 }
 

@@ -11,7 +11,7 @@ pub use Rattle.asm8080.specs.{Assembled.{Assembled, Assembles, FitsSegment, IsFi
 pub use Rattle.runtime8080.specs.{internal.Routines.{IsRoutine, size_of_routine}, declared.routine.Routine.{Routine, TheVariants.{Divide, Move, Multiply, RotateLeft, RotateRight, ShiftLeftAddress, ShiftLeftByte, ShiftRightAddress, ShiftRightByte}}}
 pub use Rattle.treecode.specs.{declared.lists.Range.{Range}, declared.module.Content.{Content}, declared.module.ExternalName.{ExternalName}, declared.module.PublicName.{PublicName}, declared.module.PublicPlace.{PublicPlace, TheVariants.{Object, Procedure}}, declared.module.TreeModule.{TreeModule}, declared.procedure.Parameter.{Parameter}, declared.procedure.ProcedureKind.{ProcedureKind}, declared.procedure.TreeProcedure.{TreeProcedure}, declared.statement.Statement.{Statement, Statement as TreeStatement}, declared.statement.StatementNumber.{StatementNumber}}
 pub use Rattle.frames.specs.{internal.Frames.{HasFrame, HasNothing, IsPlanOf, LiesApart}, declared.frame_plan.FramePlan.{FramePlan}}
-pub use Rattle.steps8080.proofs.Numbered.{items_stay, nothing_there, use_either, writes_nothing, writes_then}
+pub use Rattle.steps8080.proofs.Numbered.{items_stay, use_either, writes_nothing, writes_then}
 pub use Rattle.steps8080.specs.{internal.Externals.{AreDifferent, Extends, IsNumbering, entries, entry}, internal.Facts.{no_facts}, internal.Step.{label_after, label_of}, internal.Writer.{Finishes, NumbersNames, Writes, Written, in_front, known_label, numbered, numbered_item, numbered_reference, place_of_known, place_of_label, stack_end_item}, declared.facts.Facts.{Facts}, declared.sites.site.Site.{Site}, declared.step.LabelNumber.{LabelNumber}, declared.step.Step.{Step}, declared.step.Step.TheVariants.{Holds}}
 pub use Rattle.exprgen8080.proofs.{CodeLaws.{found_deeper, found_map, found_then, steps_are_code}, Emitting.{are_kept, are_labels_kept, emits_then, has_itself, none_is, none_noted, notes_then}}
 pub use Rattle.exprgen8080.specs.{internal.Code.{IsFoundDeep}, internal.Emission.{AreWritten, MarkWritten, NoneWritten, PlainWritten, call_routine, has_routine, index_of_routine, knowing, module_label_of_routine, module_routine_label}, internal.Emitted.{EmitsSteps, HasAll, IsEmpty, NotesCalled}, internal.Labelled.{AreLabelled}, declared.emission.Emission.{Emission}}

@@ -1,6 +1,6 @@
 //! Generation of object modules from modules of tree code.
 
-ghost use Rattle.std.specs.Prelude.{◌≡◌, ◌<◌, length, Some, IfOk, OnOk};
+ghost use Rattle.std.specs.Prelude.{◌≡◌, ◌<◌, ◌≤◌, length, Some, IfOk, OnOk};
 ghost use Rattle.failure.specs.Failure.{IfFault};
 ghost use Rattle.asm8080.specs.Assembled.{AllBound};
 ghost use Rattle.treecode.specs.internal.Nodes.{nodes_of};
@@ -16,7 +16,7 @@ ghost use Rattle.codegen8080.specs.internal.Sources.{IsOfModule};
 ghost use Rattle.codegen8080.specs.internal.Listing.{AreNamesOf, start_in};
 ghost use Rattle.codegen8080.specs.internal.Names.{IsLinkable};
 ghost use Rattle.steps8080.specs.internal.Externals.{Extends};
-ghost use Rattle.steps8080.specs.internal.Writer.{Finishes, NumbersNames, Writes, numbered};
+ghost use Rattle.steps8080.specs.internal.Writer.{Finishes, GrowsFor, NumbersNames, Writes, numbered};
 
 use crate::bodies::{put_main, put_procedure};
 use crate::fault::Fault;
@@ -240,7 +240,8 @@ fn variables_of(
     ensures items { IfOk result (λ written. numbered written (contents_items tree.now.variables.items)
         ≡ Some written.code.items) }
     ensures externals { IfOk result (λ written. Extends externals written.externals) }
-    ensures count { IfOk result (λ written. length written.externals ≡ length externals) }
+    ensures grown { IfOk result (λ written. GrowsFor externals written.externals
+        (contents_items tree.now.variables.items)) }
     ensures names { IfOk result (λ written. NumbersNames externals written.externals
         (contents_items tree.now.variables.items)) }
     ensures bound { IfOk result (λ written. AllBound written.code) }
@@ -286,7 +287,7 @@ fn names_of(
     externals: &Externals,
     code: &Finished,
 ) -> Result<ListedNames, AllocError>
-    requires as_many { length externals.now ≡ length tree.now.externals.items }
+    requires within { length externals.now ≤ length tree.now.externals.items }
     requires linkable { IsLinkable tree.now }
     ensures { IfOk result (λ names. AreNamesOf tree.now externals.now code.now.bytes code.now.labels.items
         names.numbers.items names.names) }

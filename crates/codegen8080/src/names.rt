@@ -1,6 +1,6 @@
 //! The PUBLIC and EXTERNAL names of a module in its object module.
 
-ghost use Rattle.std.specs.Prelude.{◌≡◌, ◌+◌, ◌<◌, [], ◌++◌, false, length, set, IfNone, IfOk, IfSome, IsTrue};
+ghost use Rattle.std.specs.Prelude.{◌≡◌, ◌+◌, ◌<◌, ◌≤◌, [], ◌++◌, false, length, set, IfNone, IfOk, IfSome, IsTrue};
 ghost use Rattle.std.specs.List.{AllByRecursion};
 ghost use Rattle.steps8080.specs.internal.Externals.{IsNumbering};
 ghost use Rattle.object_modules.specs.Module.{are_new, is_among, may_have_publics};
@@ -89,7 +89,7 @@ fn names_with(
     externals: &[ExternalName],
     numbers: &[Option<u16>],
 ) -> Result<LinkageNames, AllocError>
-    requires as_many { length numbers.now ≡ length externals.now }
+    requires within { length numbers.now ≤ length externals.now }
     requires new { IsTrue (are_new (names_of_externals externals.now) []) }
     ensures names { IfOk result (λ names. names.externals ≡ used_names numbers.now externals.now) }
     ensures publics { IfOk result (λ names. names.publics ≡ []) }
@@ -114,7 +114,7 @@ pub(crate) fn listed_names(
     externals: &[ExternalName],
     numbered: &Externals,
 ) -> Result<ListedNames, AllocError>
-    requires as_many { length numbered.now ≡ length externals.now }
+    requires within { length numbered.now ≤ length externals.now }
     requires new { IsTrue (are_new (names_of_externals externals.now) []) }
     ensures { IfOk result (λ listed. AreListed externals.now numbered.now listed.numbers.items listed.names) }
 {

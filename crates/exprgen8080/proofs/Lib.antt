@@ -3,5 +3,6 @@ pub mod Arguments
 pub mod PlansWithoutLabels
 pub mod Ranks
 pub mod Marked
+pub mod Named
 pub mod Emitting
 pub mod CodeLaws

@@ -11,6 +11,7 @@ pub mod Words
 pub mod Effects
 pub mod Forms
 pub mod Ranks
+pub mod Named
 pub mod Emission
 pub mod Labelled
 pub mod Emitted

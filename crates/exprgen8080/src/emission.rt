@@ -66,7 +66,7 @@ impl Emission {
     {
         let procedures = u32::try_from(tree.procedures.len()).unwrap_or(u32::MAX);
         Ok(Emission {
-            writer: Writer::new(alloc, tree.externals.len())?,
+            writer: Writer::new(alloc),
             steps: Steps::new(alloc, procedures.saturating_add(9)),
             facts: Facts::none(),
             is_called: CalledRoutines::none(alloc)?,

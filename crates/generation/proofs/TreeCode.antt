@@ -78,6 +78,7 @@ source_result typed storage result sound lowered =
       typed = typed;
       storage = storage;
       jumps = sound.jumps;
+      globals = sound.globals;
       lowered = is;
       placed = labels_have_places typed storage tree (sound_for_bounds typed sound) is;
     }) lowered

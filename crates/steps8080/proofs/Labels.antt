@@ -120,7 +120,7 @@ flags_resized labels flags more code size count newsize kept least same newsized
 }
 
 -- a table that is extended to a length, and has no further labels
-entry_of_longer : (labels : List (Option ℕ)) (size count number label : ℕ)
+pub entry_of_longer : (labels : List (Option ℕ)) (size count number label : ℕ)
     → length labels ≤ size
     → entry (take size labels ++ replicate count None) number ≡ Some label
     → entry labels number ≡ Some label

@@ -1,5 +1,5 @@
 -- Items with the code's numbers for labels and names: numbers that were given before stay.
-use Rattle.steps8080.proofs.Prelude.{◌≡◌, ℕ, zero, suc, ◌+◌, ◌<◌, ◌==◌, ◌⊎◌, inl, inr, Bool, true, false, ◌||◌, List, [], ◌∷◌, ◌++◌, length, min, replicate, set, arith, refl, ap, sym, subst, ◌∙◌, append_assoc, append-nil, Option, Some, None, option_map, unwrap_or, cases_lt, eq-eqb, list_any-append, InSegment, External, Item, Plain, WithWord, Byte, Address, Gap, Mark, Reference, AtLabel, AtTarget, AtNumber, Assembly, BoundOnce, is_bound, marks, AreWritable, CountsNamed, CountsOne, KeepsMarks, MarksOnly, NumbersNames, Written, Writes, in_front, is_marked, jump_item, name_label, names_label, numbered, numbered_item, numbered_reference, use_name, uses_name}
+use Rattle.steps8080.proofs.Prelude.{◌≡◌, ℕ, zero, suc, ◌+◌, ◌<◌, ◌≤◌, ◌==◌, ◌⊎◌, inl, inr, Bool, true, false, ◌||◌, List, [], ◌∷◌, ◌++◌, length, max, min, replicate, set, arith, refl, ap, sym, subst, ◌∙◌, append_assoc, append-nil, Option, Some, None, option_map, unwrap_or, cases_lt, eq-eqb, list_any-append, InSegment, External, Item, Plain, WithWord, Byte, Address, Gap, Mark, Reference, AtLabel, AtTarget, AtNumber, Assembly, BoundOnce, is_bound, marks, AreWritable, CountsNamed, CountsOne, GrowsFor, KeepsMarks, MarksOnly, NumbersNames, Written, Writes, in_front, is_marked, jump_item, name_label, names_label, numbered, numbered_item, numbered_reference, use_name, uses_name}
 use Rattle.asm8080.specs.declared.item.WordForm.{WordForm}
 use Rattle.steps8080.specs.declared.step.LabelNumber.{LabelNumber}
 use Rattle.steps8080.specs.internal.Externals.{AddsOnly, AreDifferent, Extends, IsNumbering, entries, entry}
@@ -174,21 +174,16 @@ entries_set (None ∷ others) (suc name) number low none =
 entries_set (Some found ∷ others) (suc name) number low none =
     ap suc (entries_set others name number (omega (arith, low)) none)
 
--- no name has a number
-none_counted : (count : ℕ) → entries (replicate count None) ≡ 0
-none_counted zero = refl
-none_counted (suc count) = none_counted count
-
 pub nothing_there : (count name number : ℕ) → entry (replicate count None) name ≡ Some number → ⊥
 nothing_there zero name number given = let bad : None ≡ Some number = given in cc
 nothing_there (suc count) zero number given = let bad : None ≡ Some number = given in cc
 nothing_there (suc count) (suc name) number given = nothing_there count name number given
 
-pub no_numbering : (table : List (Option ℕ)) (count : ℕ) → table ≡ replicate count None → IsNumbering 0 table
-no_numbering table count same = subst (IsNumbering 0) (sym same) (record {
-  counted = none_counted count;
-  below = λ name number given. absurd (nothing_there count name number given);
-  different = λ name other number given also. absurd (nothing_there count name number given);
+pub no_numbering : (table : List (Option ℕ)) → table ≡ [] → IsNumbering 0 table
+no_numbering table same = subst (IsNumbering 0) (sym same) (record {
+  counted = refl;
+  below = λ name number given. let bad : None ≡ Some number = given in cc;
+  different = λ name other number given also. let bad : None ≡ Some number = given in cc;
 })
 
 -- one more name has a number, as long as there is one
@@ -277,6 +272,43 @@ names_same : (before after : List (Option ℕ)) (items : List Item) → after �
     → NumbersNames before after items
 names_same before after items same =
     λ name number given. inl (sym (ap (λ table. entry table name) same) ∙ given)
+
+-- a table of names that stays as it is
+pub grows_same : (before after : List (Option ℕ)) (items : List Item) → after ≡ before
+    → GrowsFor before after items
+grows_same before after items same =
+    let equal : length after ≡ length before = ap (λ table. length table) same in
+    record {
+      longer = omega (arith, equal);
+      within = λ count named low. omega (arith, equal, low);
+    }
+
+-- one that is to hold a name that items refer to
+grows_named : (name : ℕ) (before after : List (Option ℕ)) (items : List Item)
+    → length before ≤ length after
+    → length after ≤ max (length before) (name + 1)
+    → use_name name items ≡ true
+    → GrowsFor before after items
+grows_named name before after items longer most used = record {
+  longer = longer;
+  within = λ count named low. let below : name < count = named.below name used in omega (arith, below, most, low);
+}
+
+-- one that grows for items one after another
+grows_then : (before between after : List (Option ℕ)) (items later : List Item)
+    → GrowsFor before between items
+    → GrowsFor between after later
+    → GrowsFor before after (items ++ later)
+grows_then before between after items later first second = record {
+  longer =
+      let one : length before ≤ length between = first.longer in
+      let other : length between ≤ length after = second.longer in omega (arith, one, other);
+  within = λ count named low.
+      second.within count
+      (record { below = λ name used. named.below name (use_either name items later (inr used)) })
+      (first.within count
+      (record { below = λ name used. named.below name (use_either name items later (inl used)) }) low);
+}
 
 -- a name that an item refers to
 name_used : (added : ℕ) (before after : List (Option ℕ)) (items : List Item)
@@ -427,7 +459,7 @@ writes_nothing written = record {
   marked = λ label given. inl given;
   externals = λ number found given. given;
   names = λ name number given. inl given;
-  count = refl;
+  grown = grows_same written.externals written.externals [] refl;
 }
 
 -- items are added one after another
@@ -453,7 +485,7 @@ writes_then before between after items later first second = record {
   externals = λ number found given. second.externals number found (first.externals number found given);
   names =
       names_then before.externals between.externals after.externals items later first.names second.names;
-  count = second.count ∙ first.count;
+  grown = grows_then before.externals between.externals after.externals items later first.grown second.grown;
 }
 
 -- one item is added, and the numbers of labels and names may change
@@ -466,10 +498,10 @@ pub writes_one :
     → MarksOnly inside.marked after.marked (item ∷ [])
     → Extends inside.externals after.externals
     → NumbersNames inside.externals after.externals (item ∷ [])
-    → length after.externals ≡ length inside.externals
+    → GrowsFor inside.externals after.externals (item ∷ [])
     → numbered_item after item ≡ Some made
     → Writes before after (item ∷ [])
-writes_one inside before after item made same added labels counted marked externals names count named =
+writes_one inside before after item made same added labels counted marked externals names grown named =
     subst (λ old. Writes old after (item ∷ [])) same (record {
       made = made ∷ [];
       added = added;
@@ -479,7 +511,7 @@ writes_one inside before after item made same added labels counted marked extern
       marked = marked;
       externals = externals;
       names = names;
-      count = count;
+      grown = grown;
     })
 
 -- one item is added, and they do not change
@@ -500,7 +532,7 @@ writes_known inside before after item made same added labels marked externals na
     (marks_same inside.marked after.marked (item ∷ []) marked)
     (λ number found given. ap (λ table. entry table number) externals ∙ given)
     (names_same inside.externals after.externals (item ∷ []) externals)
-    (ap (λ table. length table) externals)
+    (grows_same inside.externals after.externals (item ∷ []) externals)
     named
 
 -- one item is added, and a name gets a number
@@ -512,11 +544,12 @@ pub writes_named :
     → after.marked ≡ inside.marked
     → Extends inside.externals after.externals
     → AddsOnly name inside.externals after.externals
-    → length after.externals ≡ length inside.externals
+    → length inside.externals ≤ length after.externals
+    → length after.externals ≤ max (length inside.externals) (name + 1)
     → use_name name (item ∷ []) ≡ true
     → numbered_item after item ≡ Some made
     → Writes before after (item ∷ [])
-writes_named inside before after item made name same added labels marked externals only count used named =
+writes_named inside before after item made name same added labels marked externals only longer most used named =
     writes_one inside before after item made same
     (ap (λ (code : Assembly). code.items) added)
     (λ number found given. ap (λ table. entry table number) labels ∙ given)
@@ -524,7 +557,7 @@ writes_named inside before after item made name same added labels marked externa
     (marks_same inside.marked after.marked (item ∷ []) marked)
     externals
     (name_used name inside.externals after.externals (item ∷ []) only used)
-    count
+    (grows_named name inside.externals after.externals (item ∷ []) longer most used)
     named
 
 -- a jump to a label, or another instruction with its place, once the label has its number
@@ -555,7 +588,7 @@ writes_jump before between inside code form number label is items labels counted
     (λ other given. inl (marked other given))
     (λ name given other. ap (λ table. entry table name) externals ∙ other)
     (names_same before.externals between.externals (jump_item form number ∷ []) externals)
-    (ap (λ table. length table) externals)
+    (grows_same before.externals between.externals (jump_item form number ∷ []) externals)
     (ap (λ (one : Option ℕ). option_map (WithWord form) (option_map AtLabel one)) found)))
 
 -- a label gets its place, once it has its number
@@ -590,7 +623,7 @@ writes_mark before between inside code marked number label is items labels count
     ])
     (λ name given other. ap (λ table. entry table name) externals ∙ other)
     (names_same before.externals between.externals (Mark number ∷ []) externals)
-    (ap (λ table. length table) externals)
+    (grows_same before.externals between.externals (Mark number ∷ []) externals)
     (ap (option_map Mark) found)))
 
 -- a label that has its place gets none
@@ -615,5 +648,5 @@ writes_no_mark inside before after number same added labels counted marked exter
       marked = λ other given. inl (marked other given);
       externals = λ name found given. ap (λ table. entry table name) externals ∙ given;
       names = names_same inside.externals after.externals (Mark number ∷ []) externals;
-      count = ap (λ table. length table) externals;
+      grown = grows_same inside.externals after.externals (Mark number ∷ []) externals;
     })

@@ -1,6 +1,6 @@
 //! Code with numbered labels and EXTERNAL names.
 
-ghost use Rattle.std.specs.Prelude.{◌≡◌, [], ◌∷◌, ◌++◌, ◌<◌, None, Some, drop, length, replicate, IfOk, IsTrue, OnErr, OnOk, Err};
+ghost use Rattle.std.specs.Prelude.{◌≡◌, [], ◌∷◌, ◌++◌, ◌<◌, Some, drop, length, IfOk, IsTrue, OnErr, OnOk, Err};
 ghost use Rattle.failure.specs.Failure.{IfFault};
 ghost use Rattle.asm8080.specs.declared.item.Item.TheVariants.{Plain, WithWord, Byte, Address, Gap, Mark};
 ghost use Rattle.asm8080.specs.declared.item.Reference.TheVariants.{AtTarget, AtNumber};
@@ -51,17 +51,16 @@ impl Model for Writer {
 }
 
 impl Writer {
-    /// No code, in a module with `external_count` EXTERNAL names.
-    pub fn new(alloc: Global, external_count: usize) -> Result<Writer, AllocError>
-        ensures { IfOk result (λ writer. writer ≡ record {
+    /// No code.
+    pub fn new(alloc: Global) -> Writer
+        ensures { result ≡ record {
           code = record { items = []; labels = 0 };
           labels = [];
           marked = [];
-          externals = replicate external_count None;
-        }) }
+          externals = [];
+        } }
     {
-        let externals = Externals::new(alloc, external_count)?;
-        Ok(Writer::sharing(alloc, externals))
+        Writer::sharing(alloc, Externals::new(alloc))
     }
 
     /// No code, in a module in which other code refers to these EXTERNAL names already.

@@ -28,3 +28,4 @@ pub mod TableNumbers
 pub mod Below
 pub mod HomeWords
 pub mod HomeTables
+pub mod OwnNames

@@ -9,6 +9,7 @@ pub mod Queries
 pub mod Contents
 pub mod Rising
 pub mod Lowered
+pub mod Named
 pub mod Resolved
 pub mod Growth
 pub mod Numbers

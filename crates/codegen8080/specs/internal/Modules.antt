@@ -1,6 +1,6 @@
 -- The object module of a module: the items of its code and of its data, the bytes of its segments, and its
 -- names.
-use Rattle.std.specs.Prelude.{◌≡◌, ℕ, suc, nat_lt, Bool, true, false, if◌then◌else◌, List, [], ◌∷◌, ◌++◌, flat_map, length, Option, Some, None, slice_get}
+use Rattle.std.specs.Prelude.{◌≡◌, ◌≤◌, ℕ, suc, nat_lt, Bool, true, false, if◌then◌else◌, List, [], ◌∷◌, ◌++◌, flat_map, length, Option, Some, None, slice_get}
 use Rattle.isa8080.specs.declared.instr.Instr.TheVariants.{Hlt}
 use Rattle.isa8080.specs.declared.instr.Pair.TheVariants.{Sp}
 use Rattle.object_modules.specs.declared.segment.Alignment.TheVariants.{Byte as OnByte}
@@ -249,7 +249,7 @@ AreRoutines tree called written (routine ∷ others) list =
 -- Code as it was written: its items are those of the module, with the code's numbers for labels and names,
 -- and those of the routines that are called. The labels of the module's items are counted in their order.
 -- Items of the module refer to each name that has a number, and call each of the routines. The table of names
--- has an entry for each EXTERNAL name of the module.
+-- has no entry past the EXTERNAL names of the module.
 pub record IsCodeWritten (tree : TreeModule) (start : ℕ) (written : Written) : Type 0 where
   pub called : List Bool
   pub own : List Item
@@ -261,7 +261,7 @@ pub record IsCodeWritten (tree : TreeModule) (start : ℕ) (written : Written) :
   pub same : numbered written own ≡ Some made
   pub listed_are : AreRoutines tree called written all_routines listed
   pub items_are : written.code.items ≡ made ++ listed
-  pub count : length written.externals ≡ length tree.externals.items
+  pub within : length written.externals ≤ length tree.externals.items
   pub names : (name number : ℕ) → entry written.externals name ≡ Some number → use_name name own ≡ true
   pub calls : (routine : Routine) → has_routine called routine ≡ true → call_routine tree routine own ≡ true
 

@@ -6,7 +6,8 @@ use Rattle.treecode.specs.declared.expression.ExpressionForm.TheVariants as form
 use Rattle.treecode.specs.declared.place.Location.TheVariants as locations
 use Rattle.steps8080.specs.declared.step.Step.TheVariants as steps
 use Rattle.steps8080.specs.declared.sites.queries.Base.TheVariants as bases
-use Rattle.exprgen8080.proofs.Ranks.{Joining.{Falls, IsPlaced, IsUnder, after_plain, by_finding, by_test, falls, joined, repeated, weak}, Trees.{HasParts, IndexIs, has_parts, subscripts_are}, Chains.{product_fall}}
+use Rattle.steps8080.proofs.SiteNames.{IsOwn, IsOwnBase, IsOwnLocation, base_is_own, frame_is_own, location_is_own, number_is_own, place_is_own, place_of_base, pointer_of_base, static_is_own}
+use Rattle.exprgen8080.proofs.Ranks.{Joining.{Falls, IsPlaced, IsUnder, after_plain, by_finding, by_test, falls, joined, of_found, repeated, weak}, Trees.{HasParts, IndexIs, has_parts, subscripts_are}, Chains.{product_fall}}
 
 number_added_fall :
     {site : Site} {limit : ℕ} (number : ℕ)
@@ -17,76 +18,84 @@ number_added_fall number =
 
 pub addition_fall :
     {site : Site} {limit : ℕ} (place : Place)
+    → IsOwn site.tree.now place
     → Falls site limit (addition_steps place)
-addition_fall place =
-    by_finding (place_number place) (λ number is. number_added_fall number) (λ none. falls tt)
+addition_fall place own =
+    by_finding (place_number place) (λ number is. number_added_fall number) (λ none. falls (own, tt))
 
 new_address_fall :
     {now : Site} {limit : ℕ} (site : Site) (location : Location)
     (pushed : ℕ)
+    → IsOwnLocation now.tree.now location
     → Falls now limit (new_address_steps site location pushed)
-new_address_fall site (locations.Static place) pushed = falls tt
-new_address_fall site (locations.Frame variable offset) pushed = falls tt
+new_address_fall site (locations.Static place) pushed own = falls (place_is_own own, tt)
+new_address_fall site (locations.Frame variable offset) pushed own = falls tt
 
 pub location_address_fall :
     {now : Site} {limit : ℕ} (site : Site) (location : Location)
     (pushed : ℕ)
+    → IsOwnLocation now.tree.now location
     → Falls now limit (location_address_steps site location pushed)
-location_address_fall site location pushed =
+location_address_fall site location pushed own =
     by_test (is_at site.facts.address_in_hl location) (falls tt)
     (by_test (is_at site.facts.address_in_hl (before location)) (falls tt)
     (by_test (is_at site.facts.address_in_hl (location_after location 1)) (falls tt)
-    (joined (new_address_fall site location pushed) (falls tt))))
+    (joined (new_address_fall site location pushed own) (falls tt))))
 
 frame_word_fall :
     {now : Site} {limit : ℕ} (site : Site) (location : Location)
     (away pushed : ℕ)
+    → IsOwnLocation now.tree.now location
     → Falls now limit (frame_word_steps site location away pushed)
-frame_word_fall site location away pushed =
+frame_word_fall site location away pushed own =
     by_test (away == 0) (falls tt)
     (by_test (away == 2) (falls tt)
-    (joined (joined (location_address_fall site location pushed) (falls tt)) (falls tt)))
+    (joined (joined (location_address_fall site location pushed own) (falls tt)) (falls tt)))
 
 location_fits_by :
     {now : Site} {limit : ℕ} (site : Site) (location : Location)
     (pushed : ℕ)
+    → IsOwnLocation now.tree.now location
     → Falls now limit (elim location [
       | locations.Static place ↦ steps.Word LoadHl place ∷ []
       | locations.Frame variable offset ↦
           frame_word_steps site (locations.Frame variable offset)
           (distance site variable offset pushed) pushed
     ])
-location_fits_by site (locations.Static place) pushed = falls tt
-location_fits_by site (locations.Frame variable offset) pushed =
-    frame_word_fall site (locations.Frame variable offset) (distance site variable offset pushed) pushed
+location_fits_by site (locations.Static place) pushed own = falls (place_is_own own, tt)
+location_fits_by site (locations.Frame variable offset) pushed own =
+    frame_word_fall site (locations.Frame variable offset) (distance site variable offset pushed) pushed own
 
 -- code that is planned at one site fits at another site of the same tree
 pub location_word_fall :
     {now : Site} {limit : ℕ} (site : Site) (location : Location)
     (pushed : ℕ)
+    → IsOwnLocation now.tree.now location
     → Falls now limit (location_word_steps site location pushed)
-location_word_fall site location pushed =
-    by_test (is_at site.facts.word_in_hl location) (falls tt) (location_fits_by site location pushed)
+location_word_fall site location pushed own =
+    by_test (is_at site.facts.word_in_hl location) (falls tt) (location_fits_by site location pushed own)
 
 base_fall :
     {site : Site} {limit : ℕ} (base : Base) (pushed : ℕ)
+    → IsOwnBase site.tree.now base
     → Falls site limit (base_steps site base pushed)
-base_fall {site = site} (bases.Static place) pushed =
-    location_address_fall site (locations.Static place) pushed
-base_fall {site = site} (bases.Frame variable offset) pushed =
-    location_address_fall site (locations.Frame variable offset) pushed
-base_fall {site = site} (bases.Based pointer offset) pushed =
-    joined (location_word_fall site pointer pushed) (addition_fall (Number offset))
+base_fall {site = site} (bases.Static place) pushed own =
+    location_address_fall site (locations.Static place) pushed (static_is_own (place_of_base own))
+base_fall {site = site} (bases.Frame variable offset) pushed own =
+    location_address_fall site (locations.Frame variable offset) pushed frame_is_own
+base_fall {site = site} (bases.Based pointer offset) pushed own =
+    joined (location_word_fall site pointer pushed (pointer_of_base own)) (addition_fall (Number offset) number_is_own)
 
 base_added_fall :
     {site : Site} {limit : ℕ} (base : Base) (pushed : ℕ)
+    → IsOwnBase site.tree.now base
     → Falls site limit (base_added_steps site base pushed)
-base_added_fall (bases.Static place) pushed = addition_fall place
-base_added_fall (bases.Frame variable offset) pushed = falls tt
-base_added_fall {site = site} (bases.Based pointer offset) pushed =
+base_added_fall (bases.Static place) pushed own = addition_fall place (place_of_base own)
+base_added_fall (bases.Frame variable offset) pushed own = falls tt
+base_added_fall {site = site} (bases.Based pointer offset) pushed own =
     after_plain
-    (joined (location_word_fall (unknown site) pointer pushed)
-    (after_plain (addition_fall (Number offset))))
+    (joined (location_word_fall (unknown site) pointer pushed (pointer_of_base own))
+    (after_plain (addition_fall (Number offset) number_is_own)))
 
 second_fall :
     {site : Site} {limit : ℕ} (second : Subscript) (pushed : ℕ)
@@ -166,15 +175,16 @@ located_fall :
     (pushed : ℕ)
     → IfSome first (IsIndex site.tree.now limit)
     → IfSome second (IsIndex site.tree.now limit)
+    → IsOwnBase site.tree.now base
     → Falls site limit (located_steps site (located_at base first second) pushed)
-located_fall base None None pushed one two = base_fall base pushed
-located_fall base (Some first) None pushed one two =
-    joined (product_fall first.index first.stride pushed one) (base_added_fall base pushed)
-located_fall base None (Some second) pushed one two =
-    joined (product_fall second.index second.stride pushed two) (base_added_fall base pushed)
-located_fall base (Some first) (Some second) pushed one two =
+located_fall base None None pushed one two own = base_fall base pushed own
+located_fall base (Some first) None pushed one two own =
+    joined (product_fall first.index first.stride pushed one) (base_added_fall base pushed own)
+located_fall base None (Some second) pushed one two own =
+    joined (product_fall second.index second.stride pushed two) (base_added_fall base pushed own)
+located_fall base (Some first) (Some second) pushed one two own =
     joined (joined (product_fall first.index first.stride pushed one) (second_fall second pushed two))
-    (base_added_fall base pushed)
+    (base_added_fall base pushed own)
 
 -- the address of a part of an object
 pub address_fall :
@@ -195,35 +205,39 @@ address_fall {site = site} {limit = limit} reference pushed rises small =
     pushed
     (split_is site limit reference.subscript both.0)
     (split_is site limit reference.member_subscript both.1)
+    (base_is_own site reference (split site reference.subscript).offset (split site reference.member_subscript).offset)
 
 frame_byte_fall :
     {site : Site} {limit : ℕ} (location : Location) (away pushed : ℕ)
+    → IsOwnLocation site.tree.now location
     → Falls site limit (frame_byte_steps site location away pushed)
-frame_byte_fall {site = site} location away pushed =
+frame_byte_fall {site = site} location away pushed own =
     by_test (away == 0) (falls tt)
     (by_test (away == 1) (falls tt)
-    (joined (location_address_fall site location pushed) (falls tt)))
+    (joined (location_address_fall site location pushed own) (falls tt)))
 
 location_byte_by :
     {site : Site} {limit : ℕ} (location : Location) (pushed : ℕ)
+    → IsOwnLocation site.tree.now location
     → Falls site limit (elim location [
       | locations.Static place ↦ steps.Word LoadA place ∷ []
       | locations.Frame variable offset ↦
           frame_byte_steps site (locations.Frame variable offset)
           (distance site variable offset pushed) pushed
     ])
-location_byte_by (locations.Static place) pushed = falls tt
-location_byte_by {site = site} (locations.Frame variable offset) pushed =
-    frame_byte_fall (locations.Frame variable offset) (distance site variable offset pushed) pushed
+location_byte_by (locations.Static place) pushed own = falls (place_is_own own, tt)
+location_byte_by {site = site} (locations.Frame variable offset) pushed own =
+    frame_byte_fall (locations.Frame variable offset) (distance site variable offset pushed) pushed own
 
 location_byte_fall :
     {site : Site} {limit : ℕ} (location : Location) (pushed : ℕ)
+    → IsOwnLocation site.tree.now location
     → Falls site limit (location_byte_steps site location pushed)
-location_byte_fall {site = site} location pushed =
+location_byte_fall {site = site} location pushed own =
     by_test (is_at site.facts.byte_in_a location) (falls tt)
     (by_finding (byte_from_hl site.facts location)
     (λ instruction is. falls tt)
-    (λ none. location_byte_by location pushed))
+    (λ none. location_byte_by location pushed own))
 
 -- puts the byte of a part of memory into A
 pub byte_in_memory_fall :
@@ -232,37 +246,41 @@ pub byte_in_memory_fall :
     → Falls site limit (byte_in_memory_steps site reference pushed)
 byte_in_memory_fall {site = site} reference pushed is =
     by_finding (location_of site reference)
-    (λ location there. (location_byte_fall location pushed))
+    (λ location there. location_byte_fall location pushed
+    (of_found (IsOwnLocation site.tree.now) (location_is_own site reference) there))
     (λ none. falls (is, tt))
 
 frame_byte_to_l_fall :
     {site : Site} {limit : ℕ} (location : Location) (away pushed : ℕ)
+    → IsOwnLocation site.tree.now location
     → Falls site limit (frame_byte_to_l_steps site location away pushed)
-frame_byte_to_l_fall {site = site} location away pushed =
+frame_byte_to_l_fall {site = site} location away pushed own =
     by_test (away == 0) (falls tt)
     (by_test (away == 1) (falls tt)
-    (joined (location_address_fall site location pushed) (falls tt)))
+    (joined (location_address_fall site location pushed own) (falls tt)))
 
 byte_to_l_by :
     {site : Site} {limit : ℕ} (location : Location) (pushed : ℕ)
+    → IsOwnLocation site.tree.now location
     → Falls site limit (elim location [
       | locations.Static place ↦ steps.Word LoadHl place ∷ []
       | locations.Frame variable offset ↦
           frame_byte_to_l_steps site (locations.Frame variable offset)
           (distance site variable offset pushed) pushed
     ])
-byte_to_l_by (locations.Static place) pushed = falls tt
-byte_to_l_by {site = site} (locations.Frame variable offset) pushed =
-    frame_byte_to_l_fall (locations.Frame variable offset) (distance site variable offset pushed) pushed
+byte_to_l_by (locations.Static place) pushed own = falls (place_is_own own, tt)
+byte_to_l_by {site = site} (locations.Frame variable offset) pushed own =
+    frame_byte_to_l_fall (locations.Frame variable offset) (distance site variable offset pushed) pushed own
 
 byte_to_l_fall :
     {site : Site} {limit : ℕ} (location : Location) (pushed : ℕ)
+    → IsOwnLocation site.tree.now location
     → Falls site limit (byte_to_l_steps site location pushed)
-byte_to_l_fall {site = site} location pushed =
+byte_to_l_fall {site = site} location pushed own =
     by_test (is_at site.facts.word_in_hl location) (falls tt)
     (by_finding (byte_for_l site.facts location)
     (λ instruction is. falls tt)
-    (λ none. byte_to_l_by location pushed))
+    (λ none. byte_to_l_by location pushed own))
 
 -- puts it into HL, zero-extended
 pub extended_byte_in_memory_fall :
@@ -271,7 +289,8 @@ pub extended_byte_in_memory_fall :
     → Falls site limit (extended_byte_in_memory_steps site reference pushed)
 extended_byte_in_memory_fall {site = site} reference pushed is =
     by_finding (location_of site reference)
-    (λ location there. joined (byte_to_l_fall location pushed) (falls tt))
+    (λ location there. joined (byte_to_l_fall location pushed
+    (of_found (IsOwnLocation site.tree.now) (location_is_own site reference) there)) (falls tt))
     (λ none. falls (is, tt))
 
 -- puts the word of a part of memory into HL
@@ -281,5 +300,6 @@ pub word_in_memory_fall :
     → Falls site limit (word_in_memory_steps site reference pushed)
 word_in_memory_fall {site = site} reference pushed is =
     by_finding (location_of site reference)
-    (λ location there. (location_word_fall site location pushed))
+    (λ location there. location_word_fall site location pushed
+    (of_found (IsOwnLocation site.tree.now) (location_is_own site reference) there))
     (λ none. falls (is, tt))

@@ -159,7 +159,7 @@ byte_shift_fall {site = site} {limit = limit} number shifted pushed own one two 
           | scalars.Address ↦ low_of_word_steps number pushed
         ])
     by scalars.Byte same = joined (operands_fall shifted.value shifted.count pushed one two) (falls tt)
-    by scalars.Address same = record { below = (own same, tt); unmarked = refl }
+    by scalars.Address same = record { below = (own same, tt); unmarked = refl; named = λ names. tt }
 
 added_fall :
     {site : Site} {limit : ℕ} (number : ℕ)

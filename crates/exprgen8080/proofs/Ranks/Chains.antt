@@ -1,5 +1,6 @@
 -- Products with numbers.
 use Rattle.exprgen8080.proofs.Prelude.{◌/◌, ◌%◌, ◌==◌, ◌||◌, A, Add, B, Bc, Bool, Dad, ExpressionNumber, Hl, Instr, Site, bit_steps, byte_multiple_steps, byte_product_steps, chain_from, false, has_bit, multiple_steps, power_of_two, product_steps, small_multiple_steps, suc, true, with_register, zero, ℕ}
+use Rattle.steps8080.proofs.SiteNames.{number_is_own}
 use Rattle.exprgen8080.proofs.Ranks.{Joining.{Falls, IsUnder, after_part, after_plain, by_finding, by_test, falls, joined, repeated}}
 
 bit_fall :
@@ -45,7 +46,7 @@ pub product_fall :
     → Falls site limit (product_steps expression number pushed)
 product_fall expression number pushed is =
     by_test (number == 0)
-    (falls (is, tt))
+    (falls (is, (number_is_own, tt)))
     (after_part is (multiple_fall number))
 
 byte_multiple_fall :

@@ -1,5 +1,5 @@
 -- Relations as values and as jumps, and jumps on conditions.
-use Rattle.exprgen8080.proofs.Prelude.{◌≡◌, ◌<◌, ◌&&◌, ◌∷◌, ◌++◌, if◌then◌else◌, Between, BinaryOperator, Bool, Comparison, Condition, DeAndHl, Double, Equal, Expression, ExpressionForm, ExpressionNumber, IfSome, Inquiry, Joined, Junction, Known, LabelNumber, LeftBelow, Low, Negate, None, Not, Opposite, Option, Other, Outcome, PlaceAndHl, Question, Relation, RightBelow, SameAs, ScalarType, Setting, Shape, Site, Some, Step, List, [], TreeModule, Whatever, WithNumber, Words, agree, branch_labels, branch_part, branch_setting, branch_steps, byte_relation_steps, carry_steps, equality_labels, equality_of_words, equality_steps, expression, false, fits_byte, high_difference_steps, inquiry_steps, is_odd, is_quiet, joined_labels, joined_steps, known_branch_steps, label_of, low_difference_steps, mirrored, option_and_then, option_map, other_labels, other_steps, outcome_branch_steps, outcome_value_steps, question_of, rank, refl, relation_between, relation_branch_labels, relation_branch_steps, relation_by, relation_of, relation_of_form, relation_outcome, relation_steps, relation_value_steps, relation_with_number, scalar, shape_of, shape_of_binary, shape_of_form, shape_labels, shape_of_junction, shape_steps, shape_with_number, true, value_setting, word_relation_steps, words_asked, words_compared, words_of, ℕ}
+use Rattle.exprgen8080.proofs.Prelude.{◌≡◌, ◌<◌, ◌&&◌, ◌∷◌, ◌++◌, if◌then◌else◌, Apart, operand_apart, Between, BinaryOperator, Bool, Comparison, Condition, DeAndHl, Double, Equal, Expression, ExpressionForm, ExpressionNumber, IfSome, Inquiry, Joined, Junction, Known, LabelNumber, LeftBelow, Low, Negate, None, Not, Opposite, Option, Other, Outcome, PlaceAndHl, Question, Relation, RightBelow, SameAs, ScalarType, Setting, Shape, Site, Some, Step, List, [], TreeModule, Whatever, WithNumber, Words, agree, branch_labels, branch_part, branch_setting, branch_steps, byte_relation_steps, carry_steps, equality_labels, equality_of_words, equality_steps, expression, false, fits_byte, high_difference_steps, inquiry_steps, is_odd, is_quiet, joined_labels, joined_steps, known_branch_steps, label_of, low_difference_steps, mirrored, option_and_then, option_map, other_labels, other_steps, outcome_branch_steps, outcome_value_steps, question_of, rank, refl, relation_between, relation_branch_labels, relation_branch_steps, relation_by, relation_of, relation_of_form, relation_outcome, relation_steps, relation_value_steps, relation_with_number, scalar, shape_of, shape_of_binary, shape_of_form, shape_labels, shape_of_junction, shape_steps, shape_with_number, true, value_setting, word_relation_steps, words_asked, words_compared, words_of, ℕ}
 use Rattle.trees.specs.declared.declaration.ScalarType.TheVariants as scalars
 use Rattle.trees.specs.declared.expression.BinaryOperator.TheVariants as operators
 use Rattle.treecode.specs.declared.expression.ExpressionForm.TheVariants as forms
@@ -10,7 +10,8 @@ use Rattle.steps8080.specs.internal.Queries as queries
 use Rattle.operands8080.specs.declared.branches.Branch.{Branch}
 use Rattle.operands8080.specs.declared.relations.Outcome.TheVariants as outcomes
 use Rattle.steps8080.specs.declared.step.Task.TheVariants as tasks
-use Rattle.exprgen8080.proofs.Ranks.{Joining.{Falls, FallsMarking, HasLowParts, IsUnder, after_part, by_finding, by_test, falls, joined, joined_marking, of_found, taking_none}, Trees.{HasParts, has_parts}, ByteRelations.{byte_number_fall, byte_relation_fall}, WordRelations.{word_number_fall, word_relation_fall, words_fall}}
+use Rattle.steps8080.proofs.SiteNames.{IsOwn, after_is_own}
+use Rattle.exprgen8080.proofs.Ranks.{Joining.{Falls, FallsMarking, HasLowParts, IsUnder, after_part, by_finding, by_test, falls, joined, joined_marking, of_found, taking_none}, Trees.{HasParts, has_parts}, ByteRelations.{byte_number_fall, byte_relation_fall}, WordRelations.{IsOther, operand_apart_is, word_number_fall, word_relation_fall, words_fall}}
 
 -- a question about operands that allow a pushed word before them
 abbrev pub IsAsked : (tree : TreeModule) → (limit : ℕ) → Inquiry → Type 0
@@ -238,24 +239,44 @@ shape_is site limit number is = by (queries.number site number)
     by (Some value) = tt
     by None = found_is (expression site number) refl
 
+-- the place of a word in memory
+abbrev PlaceOfWords : TreeModule → Words → Type 0
+PlaceOfWords tree (PlaceAndHl place) = IsOwn tree place
+PlaceOfWords tree DeAndHl = Unit {0}
+
+words_are_own :
+    (site : Site) (limit : ℕ) (comparison : Comparison)
+    → IsUnder site.tree.now limit comparison.left → IsUnder site.tree.now limit comparison.right
+    → PlaceOfWords site.tree.now (words_of site comparison)
+words_are_own site limit comparison one two =
+    by (operand_apart site comparison) (operand_apart_is site limit comparison one two)
+  where
+    by : (found : Option Apart) → IfSome found (IsOther site.tree.now limit)
+        → PlaceOfWords site.tree.now (elim found [ Some apart ↦ PlaceAndHl apart.place | None ↦ DeAndHl ])
+    by (Some apart) is = is.1
+    by None is = tt
+
 low_difference_fall :
     {site : Site} {limit : ℕ} (words : Words)
+    → PlaceOfWords site.tree.now words
     → Falls site limit (low_difference_steps words)
-low_difference_fall (PlaceAndHl place) = falls tt
-low_difference_fall DeAndHl = falls tt
+low_difference_fall (PlaceAndHl place) own = falls (own, tt)
+low_difference_fall DeAndHl own = falls tt
 
 high_difference_fall :
     {site : Site} {limit : ℕ} (words : Words)
+    → PlaceOfWords site.tree.now words
     → Falls site limit (high_difference_steps words)
-high_difference_fall (PlaceAndHl place) = falls tt
-high_difference_fall DeAndHl = falls tt
+high_difference_fall (PlaceAndHl place) own = falls (after_is_own 1 own, tt)
+high_difference_fall DeAndHl own = falls tt
 
 jump_fall :
     {site : Site} {limit : ℕ} (label : LabelNumber) (words : Words)
+    → PlaceOfWords site.tree.now words
     → Falls site limit
     (steps.Jump (word_forms.JumpWhere conditions.NotZero) label ∷ high_difference_steps words)
-jump_fall label (PlaceAndHl place) = falls tt
-jump_fall label DeAndHl = falls tt
+jump_fall label (PlaceAndHl place) own = falls (after_is_own 1 own, tt)
+jump_fall label DeAndHl own = falls tt
 
 equality_fall :
     {site : Site} {limit : ℕ} (comparison : Comparison) (is_equal : Bool)
@@ -263,15 +284,17 @@ equality_fall :
     → IsUnder site.tree.now limit comparison.left → IsUnder site.tree.now limit comparison.right
     → FallsMarking site limit first (equality_labels is_equal)
     (equality_steps site comparison is_equal branch first)
-equality_fall {site = site} comparison true branch first one two =
+equality_fall {site = site} {limit = limit} comparison true branch first one two =
+    let own = words_are_own site limit comparison one two in
     joined_marking
-    (joined (words_fall comparison branch.pushed one two) (low_difference_fall (words_of site comparison)))
-    (joined_marking (jump_fall (label_of first) (words_of site comparison))
-    (record { below = tt; marked = refl }))
-equality_fall {site = site} comparison false branch first one two =
+    (joined (words_fall comparison branch.pushed one two) (low_difference_fall (words_of site comparison) own))
+    (joined_marking (jump_fall (label_of first) (words_of site comparison) own)
+    (record { below = tt; marked = refl; named = λ own. tt }))
+equality_fall {site = site} {limit = limit} comparison false branch first one two =
+    let own = words_are_own site limit comparison one two in
     joined_marking
-    (joined (words_fall comparison branch.pushed one two) (low_difference_fall (words_of site comparison)))
-    (taking_none (joined (jump_fall branch.label (words_of site comparison)) (falls tt)))
+    (joined (words_fall comparison branch.pushed one two) (low_difference_fall (words_of site comparison) own))
+    (taking_none (joined (jump_fall branch.label (words_of site comparison) own) (falls tt)))
 
 -- two ADDRESSes that are tested for equality are those that are compared
 equality_is :
@@ -349,7 +372,7 @@ other_fall {site = site} {limit = limit} condition branch first is own =
     finding_marking (relation_of site condition)
     (λ relation there. related relation
     (of_found (IsRelation site.tree.now limit) (relation_is site limit condition is) there))
-    (λ none. record { below = (own, tt); marked = refl })
+    (λ none. record { below = (own, tt); marked = refl; named = λ names. tt })
   where
     related : (relation : Relation) → IsRelation site.tree.now limit relation
         → FallsMarking site limit first (relation_branch_labels site relation branch)
@@ -375,7 +398,7 @@ skipping_fall {site = site} {limit = limit} junction branch first false one two 
     (branch_part (record branch { label = label_of first; sense = junction.deciding }) junction.left
     ∷ branch_part branch junction.right
     ∷ []) = falls (one, (two, tt)) in
-    record { below = before.below; marked = refl }
+    record { below = before.below; marked = refl; named = λ own. tt }
 
 joined_fall :
     {site : Site} {limit : ℕ} (junction : Junction) (branch : Branch) (first : ℕ)

@@ -1,7 +1,8 @@
 -- Stores of a value in A or HL.
-use Rattle.exprgen8080.proofs.Prelude.{◌&&◌, ◌∷◌, ◌++◌, [], A, Address, Bool, Byte, D, First, Frame, Goal, Hl, Inx, L, Location, M, MovToMemory, Mvi, Near, None, Option, ScalarType, Second, Sent, Site, Some, Static, StoreA, StoreHl, Stored, Target, TreeModule, address_beside_a_steps, address_beside_de_steps, byte_is_here_steps, copy, extension_steps, false, goal_of, goal_steps, not, store_a_at_steps, store_a_steps, store_extended_steps, store_hl_at_steps, store_low_byte_at_steps, store_low_byte_steps, store_near_steps, store_steps, store_word_steps, true, value_back_steps, word_is_here_steps, word_near, ℕ}
+use Rattle.exprgen8080.proofs.Prelude.{◌&&◌, ◌∷◌, ◌++◌, [], A, Address, Bool, Byte, D, First, Frame, Goal, Hl, IfSome, Inx, L, Location, M, MovToMemory, Mvi, Near, None, Option, ScalarType, Second, Sent, Site, Some, Static, StoreA, StoreHl, Stored, Target, TreeModule, address_beside_a_steps, address_beside_de_steps, byte_is_here_steps, copy, extension_steps, false, goal_of, goal_steps, not, store_a_at_steps, store_a_steps, store_extended_steps, store_hl_at_steps, store_low_byte_at_steps, store_low_byte_steps, store_near_steps, store_steps, store_word_steps, true, value_back_steps, word_is_here_steps, word_near, ℕ}
 use Rattle.steps8080.specs.declared.step.Step.TheVariants as steps
 use Rattle.steps8080.specs.internal.Step.{plain}
+use Rattle.steps8080.proofs.SiteNames.{IsOwnLocation, location_is_own, place_is_own}
 use Rattle.exprgen8080.proofs.Ranks.{Joining.{Falls, IsPlaced, after_plain, by_test, falls, joined}}
 
 near_fall :
@@ -54,26 +55,29 @@ extended_fall :
     {site : Site} {limit : ℕ} (goal : Goal) (location : Location)
     (pushed : ℕ)
     → IsPlaced site.tree.now limit goal.reference
+    → IsOwnLocation site.tree.now location
     → Falls site limit (store_extended_steps site goal location pushed)
-extended_fall goal (Static place) pushed is = falls tt
-extended_fall {site = site} goal (Frame variable offset) pushed is =
+extended_fall goal (Static place) pushed is own = falls (place_is_own own, tt)
+extended_fall {site = site} goal (Frame variable offset) pushed is own =
     extended_near goal (Frame variable offset) pushed (word_near site (Frame variable offset) pushed) is
 
 byte_at_location :
     {site : Site} {limit : ℕ} (goal : Goal) (location : Location)
     (pushed : ℕ)
     → IsPlaced site.tree.now limit goal.reference
+    → IsOwnLocation site.tree.now location
     → Falls site limit (elim location [
       | Static place ↦ steps.Word StoreA place ∷ []
       | Frame variable offset ↦ store_a_at_steps goal pushed
     ])
-byte_at_location goal (Static place) pushed is = falls tt
-byte_at_location goal (Frame variable offset) pushed is = a_at_fall goal pushed is
+byte_at_location goal (Static place) pushed is own = falls (place_is_own own, tt)
+byte_at_location goal (Frame variable offset) pushed is own = a_at_fall goal pushed is
 
 a_at_location :
     {site : Site} {limit : ℕ} (goal : Goal) (location : Location)
     (to : ScalarType) (pushed : ℕ)
     → IsPlaced site.tree.now limit goal.reference
+    → IsOwnLocation site.tree.now location
     → Falls site limit (elim to [
       | Address ↦ store_extended_steps site goal location pushed
       | Byte ↦ elim location [
@@ -81,16 +85,17 @@ a_at_location :
         | Frame variable offset ↦ store_a_at_steps goal pushed
       ]
     ])
-a_at_location goal location Address pushed is = extended_fall goal location pushed is
-a_at_location goal location Byte pushed is = byte_at_location goal location pushed is
+a_at_location goal location Address pushed is own = extended_fall goal location pushed is own
+a_at_location goal location Byte pushed is own = byte_at_location goal location pushed is own
 
 a_fall :
     {site : Site} {limit : ℕ} (goal : Goal) (pushed : ℕ)
     → IsPlaced site.tree.now limit goal.reference
+    → IfSome goal.location (IsOwnLocation site.tree.now)
     → Falls site limit (store_a_steps site goal pushed)
-a_fall {site = site} {limit = limit} goal pushed is = by goal.location
+a_fall {site = site} {limit = limit} goal pushed is own = by goal.location own
   where
-    by : (found : Option Location)
+    by : (found : Option Location) → IfSome found (IsOwnLocation site.tree.now)
         → Falls site limit (elim found [
           | None ↦ store_a_at_steps goal pushed
           | Some location ↦ elim goal.to [
@@ -101,8 +106,8 @@ a_fall {site = site} {limit = limit} goal pushed is = by goal.location
             ]
           ]
         ])
-    by (Some location) = a_at_location goal location goal.to pushed is
-    by None = a_at_fall goal pushed is
+    by (Some location) has = a_at_location goal location goal.to pushed is has
+    by None has = a_at_fall goal pushed is
 
 high_by :
     {site : Site} {limit : ℕ} (to : ScalarType)
@@ -141,10 +146,11 @@ low_at_fall goal is_wanted pushed is =
 low_fall :
     {site : Site} {limit : ℕ} (goal : Goal) (is_wanted : Bool) (pushed : ℕ)
     → IsPlaced site.tree.now limit goal.reference
+    → IfSome goal.location (IsOwnLocation site.tree.now)
     → Falls site limit (store_low_byte_steps goal is_wanted pushed)
-low_fall {site = site} {limit = limit} goal is_wanted pushed is = by goal.location
+low_fall {site = site} {limit = limit} goal is_wanted pushed is own = by goal.location own
   where
-    by : (found : Option Location)
+    by : (found : Option Location) → IfSome found (IsOwnLocation site.tree.now)
         → Falls site limit (elim found [
           | None ↦ store_low_byte_at_steps goal is_wanted pushed
           | Some location ↦ elim location [
@@ -152,15 +158,16 @@ low_fall {site = site} {limit = limit} goal is_wanted pushed is = by goal.locati
             | Frame variable offset ↦ store_low_byte_at_steps goal is_wanted pushed
           ]
         ])
-    by None = low_at_fall goal is_wanted pushed is
-    by (Some (Static place)) = falls tt
-    by (Some (Frame variable offset)) = low_at_fall goal is_wanted pushed is
+    by None has = low_at_fall goal is_wanted pushed is
+    by (Some (Static place)) has = falls (place_is_own has, tt)
+    by (Some (Frame variable offset)) has = low_at_fall goal is_wanted pushed is
 
 word_fall :
     {site : Site} {limit : ℕ} (goal : Goal) (is_wanted : Bool) (pushed : ℕ)
     → IsPlaced site.tree.now limit goal.reference
+    → IfSome goal.location (IsOwnLocation site.tree.now)
     → Falls site limit (store_word_steps site goal is_wanted pushed)
-word_fall {site = site} {limit = limit} goal is_wanted pushed is = by goal.location
+word_fall {site = site} {limit = limit} goal is_wanted pushed is own = by goal.location own
   where
     nearby : (location : Location) (found : Option Near)
         → Falls site limit (elim found [
@@ -171,7 +178,7 @@ word_fall {site = site} {limit = limit} goal is_wanted pushed is = by goal.locat
     nearby location None =
         hl_at_fall goal is_wanted pushed is
 
-    by : (found : Option Location)
+    by : (found : Option Location) → IfSome found (IsOwnLocation site.tree.now)
         → Falls site limit (elim found [
           | None ↦ store_hl_at_steps goal is_wanted pushed
           | Some location ↦ elim location [
@@ -182,27 +189,28 @@ word_fall {site = site} {limit = limit} goal is_wanted pushed is = by goal.locat
             ]
           ]
         ])
-    by None = hl_at_fall goal is_wanted pushed is
-    by (Some (Static place)) = falls tt
-    by (Some (Frame variable offset)) =
+    by None has = hl_at_fall goal is_wanted pushed is
+    by (Some (Static place)) has = falls (place_is_own has, tt)
+    by (Some (Frame variable offset)) has =
         nearby (Frame variable offset) (word_near site (Frame variable offset) pushed)
 
 goal_fall :
     {site : Site} {limit : ℕ} (from : ScalarType) (goal : Goal)
     (is_wanted : Bool) (pushed : ℕ)
     → IsPlaced site.tree.now limit goal.reference
+    → IfSome goal.location (IsOwnLocation site.tree.now)
     → Falls site limit (goal_steps site from goal is_wanted pushed)
-goal_fall {site = site} Byte goal is_wanted pushed is =
-    a_fall goal pushed is
-goal_fall {site = site} {limit = limit} Address goal is_wanted pushed is = by goal.to
+goal_fall {site = site} Byte goal is_wanted pushed is own =
+    a_fall goal pushed is own
+goal_fall {site = site} {limit = limit} Address goal is_wanted pushed is own = by goal.to
   where
     by : (to : ScalarType)
         → Falls site limit (elim to [
           | Byte ↦ store_low_byte_steps goal is_wanted pushed
           | Address ↦ store_word_steps site goal is_wanted pushed
         ])
-    by Byte = low_fall goal is_wanted pushed is
-    by Address = word_fall goal is_wanted pushed is
+    by Byte = low_fall goal is_wanted pushed is own
+    by Address = word_fall goal is_wanted pushed is own
 
 -- the part of an object that a value is stored in
 abbrev pub IsGoal : (tree : TreeModule) → (limit : ℕ) → Target → Type 0
@@ -218,4 +226,4 @@ pub store_fall :
 store_fall (Sent Byte port) is_wanted pushed is = falls tt
 store_fall (Sent Address port) is_wanted pushed is = falls tt
 store_fall {site = site} {limit = limit} (Stored from to reference) is_wanted pushed is =
-    goal_fall from (goal_of site to reference) is_wanted pushed is
+    goal_fall from (goal_of site to reference) is_wanted pushed is (location_is_own site reference)

@@ -2,9 +2,11 @@
 use Rattle.exprgen8080.proofs.Prelude.{◌≡◌, ◌+◌, ◌*◌, ◌<◌, ◌≤◌, ◌∷◌, [], AreBelow, Bool, ExpressionNumber, List, None, NumbersRise, Option, Part, ScalarType, Site, Some, Step, Target, Task, TreeModule, ap, arguments_bound, arith, drop, drop_found, entry_of, expression, labels_from, marks_of, nodes_of, none-some, option_and_then, part_measure, rank, rank_of_byte, rank_of_word, same_Some, scalar, slice_get, step_measure, subst, suc, task_labels, task_steps, type_in, zero, ℕ}
 use Rattle.trees.specs.declared.declaration.ScalarType.TheVariants as scalars
 use Rattle.treecode.specs.declared.reference.Target.TheVariants as targets
+use Rattle.treecode.specs.internal.Named.{NamesItsOwn}
 use Rattle.steps8080.specs.declared.step.Step.TheVariants as steps
 use Rattle.steps8080.specs.declared.step.Task.TheVariants as tasks
 use Rattle.exprgen8080.specs.internal.Forms.{labels_of, steps_of}
+use Rattle.exprgen8080.specs.internal.Named.{PlacesAreNamed}
 use Rattle.exprgen8080.proofs.Ranks.{Joining.{FallsMarking, taking_none}, Addresses.{address_fall}, Stores.{IsGoal, store_fall}, Relations.{branch_fall}, Calls.{call_fall, effects_fall}, Values.{byte_fall, word_fall}}
 
 low_in_byte : (number : ExpressionNumber) (scalar : ScalarType)
@@ -97,6 +99,13 @@ pub part_marks : (site : Site) (part : Part) (first : ℕ) → NumbersRise (node
     → marks_of (task_steps site part first) ≡ labels_from first (task_labels site part)
 unfolding task_steps task_labels
 part_marks site part first rises = (steps_fall site part.task part.pushed first rises).marked
+
+-- each place in them is named by the module, if all that it refers to is
+pub parts_named : (site : Site) (part : Part) (first : ℕ) → NumbersRise (nodes_of site.tree.now)
+    → NamesItsOwn site.tree.now
+    → PlacesAreNamed site.tree.now (task_steps site part first)
+unfolding task_steps
+parts_named site part first rises own = (steps_fall site part.task part.pushed first rises).named own
 
 -- a step of these that is found
 found_below : (tree : TreeModule) (limit : ℕ) (list : List Step) (index : ℕ) (step : Step)

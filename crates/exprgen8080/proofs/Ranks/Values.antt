@@ -3,16 +3,18 @@ use Rattle.exprgen8080.proofs.Prelude.{◌≡◌, ◌<◌, ◌∙◌, Double, Ex
 use Rattle.trees.specs.declared.declaration.ScalarType.TheVariants as scalars
 use Rattle.treecode.specs.declared.expression.ExpressionForm.TheVariants as forms
 use Rattle.steps8080.specs.declared.step.Task.TheVariants as tasks
+use Rattle.steps8080.proofs.SiteNames.{IsOwn, known_is_own, static_is_own}
 use Rattle.exprgen8080.proofs.Ranks.{Joining.{Falls, HasLowParts, IsPlaced, after_part, by_finding, falls, joined, of_found}, Trees.{AreGiven, HasParts, has_parts}, Found.{is_in_memory}, Addresses.{byte_in_memory_fall, extended_byte_in_memory_fall, location_address_fall, word_in_memory_fall}, Bytes.{byte_binary_fall, byte_number_fall, byte_shift_fall, high_byte_fall}, Words.{word_binary_fall, word_shift_fall, word_unary_fall}, Calls.{call_fall, embedded_fall}}
 
 known_byte_fall :
     {site : Site} {limit : ℕ} (place : Place)
+    → IsOwn site.tree.now place
     → Falls site limit (known_byte_steps place)
 unfolding known_byte_steps
-known_byte_fall place =
+known_byte_fall place own =
     by_finding (place_number place)
     (λ number there. (byte_number_fall (low number)))
-    (λ none. falls tt)
+    (λ none. falls (own, tt))
 
 low_value_fall :
     {site : Site} {limit : ℕ} (scalar : ScalarType)
@@ -69,7 +71,7 @@ pub byte_fall :
 unfolding byte_steps
 byte_fall {site = site} {limit = limit} number pushed is own =
     by_finding (known site number)
-    (λ place there. (known_byte_fall place))
+    (λ place there. known_byte_fall place (of_found (IsOwn site.tree.now) (known_is_own site number) there))
     (λ unknown. by_finding (memory site number)
     (λ reference there. in_memory reference
     (of_found (IsPlaced site.tree.now limit) (is_in_memory site limit number is) there))
@@ -92,7 +94,7 @@ extended_fall {site = site} {limit = limit} number pushed is own =
     by_finding (memory site number)
     (λ reference there. in_memory reference
     (of_found (IsPlaced site.tree.now limit) (is_in_memory site limit number is) there))
-    (λ none. record { below = (own, tt); unmarked = refl })
+    (λ none. record { below = (own, tt); unmarked = refl; named = λ names. tt })
   where
     in_memory : (reference : Reference) → IsPlaced site.tree.now limit reference
         → Falls site limit (extended_byte_in_memory_steps site reference pushed)
@@ -159,7 +161,8 @@ pub word_fall :
 unfolding word_steps
 word_fall {site = site} number pushed is own =
     by_finding (known site number)
-    (λ place there. (location_address_fall site (Static place) pushed))
+    (λ place there. location_address_fall site (Static place) pushed
+    (static_is_own (of_found (IsOwn site.tree.now) (known_is_own site number) there)))
     (λ unknown. by_finding (expression site number)
     (λ found there. computed_word_fall number found pushed is
     (λ byte. own (type_found site number found there ∙ byte)) (has_parts site is there))

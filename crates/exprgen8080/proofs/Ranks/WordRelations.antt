@@ -1,5 +1,5 @@
 -- Relations of ADDRESSes.
-use Rattle.exprgen8080.proofs.Prelude.{◌≡◌, ◌/◌, ◌%◌, ◌==◌, ◌&&◌, ◌||◌, ◌∷◌, ◌++◌, [], if◌then◌else◌, A, Apart, Below, Bool, Comparison, Equal, Expression, ExpressionForm, ExpressionNumber, Hl, IfSome, Inx, Is, LeftBelow, Never, None, NumberQuestion, Option, Place, Question, Reference, RightBelow, Setting, Site, Some, TreeModule, WordRegisters, apart_of, direct, expression, false, fits_byte, high_byte_in_memory, high_steps, in_hl, is_word_in_hl, left_apart, load, load_a_steps, low_steps, masked, masked_form, masked_steps, may_exchange, nat_lt, negated, number_in_a_steps, operand_apart, other_word, pair_order, place_apart, refl, right_apart, taken_steps, true, with_place_steps, word_below_steps, word_is_steps, word_is_zero_steps, word_number_steps, word_question_steps, word_relation_steps, word_taken_from, words_steps, ℕ}
+use Rattle.exprgen8080.proofs.Prelude.{◌≡◌, ◌/◌, ◌%◌, ◌==◌, ◌&&◌, ◌||◌, ◌∷◌, ◌++◌, [], if◌then◌else◌, A, Apart, Below, Bool, Comparison, Equal, Expression, ExpressionForm, ExpressionNumber, Hl, IfSome, Inx, Is, LeftBelow, Never, None, NumberQuestion, Option, Place, Question, Reference, RightBelow, Setting, Site, Some, TreeModule, WordRegisters, apart_of, direct, expression, false, direct_word, fits_byte, high_byte_in_memory, high_steps, in_hl, is_word_in_hl, left_apart, load, load_a_steps, low_steps, masked, masked_form, masked_steps, may_exchange, nat_lt, negated, number_in_a_steps, operand_apart, other_word, pair_order, place_apart, refl, right_apart, taken_steps, true, with_place_steps, word_below_steps, word_is_steps, word_is_zero_steps, word_number_steps, word_question_steps, word_relation_steps, word_taken_from, words_steps, ℕ}
 use Rattle.trees.specs.declared.declaration.ScalarType.TheVariants as scalars
 use Rattle.trees.specs.declared.expression.BinaryOperator.TheVariants as operators
 use Rattle.treecode.specs.declared.expression.ExpressionForm.TheVariants as forms
@@ -8,6 +8,7 @@ use Rattle.steps8080.specs.declared.step.Step.TheVariants as steps
 use Rattle.steps8080.specs.declared.step.Task.TheVariants as tasks
 use Rattle.steps8080.specs.internal.Step.{part}
 use Rattle.operands8080.specs.internal.WordRelations.{difference_steps, high_byte_steps, with_pair_steps}
+use Rattle.steps8080.proofs.SiteNames.{IsOwn, after_is_own, direct_is_own, direct_word_is_own}
 use Rattle.exprgen8080.proofs.Ranks.{Joining.{Falls, IsPlaced, IsUnder, after_part, after_plain, by_finding, by_test, falls, joined, of_found, repeated, weak}, Trees.{HasParts, has_parts}, Found.{high_is_in_memory}, Pairs.{pair_fall}, ByteRelations.{byte_number_fall, byte_relation_fall, number_in_a_fall}}
 
 -- the high byte of an ADDRESS
@@ -30,7 +31,8 @@ high_byte_fall {site = site} {limit = limit} operand pushed is =
           | None ↦ part (tasks.Address reference) pushed ∷ steps.Plain (load A) ∷ []
         ])
     in_memory reference has =
-        by_finding (direct site reference) (λ place is_there. falls tt)
+        by_finding (direct site reference)
+        (λ place is_there. falls (of_found (IsOwn site.tree.now) (direct_is_own site reference) is_there, tt))
         (λ none. falls (has, tt))
 
 difference_fall :
@@ -144,18 +146,27 @@ word_number_fall {site = site} operand question setting is =
     (byte_number_fall operand question setting is)
     (word_question_fall operand question setting is)
 
--- the operand that does not stay in memory
+-- the operand that does not stay in memory, and the place of the other one
 abbrev pub IsOther : (tree : TreeModule) → (limit : ℕ) → Apart → Type 0
-IsOther tree limit apart = IsUnder tree limit apart.other
+IsOther tree limit apart = IsUnder tree limit apart.other × IsOwn tree apart.place
 
 apart_is :
     (tree : TreeModule) (limit : ℕ) (found : Option Place) (other : ExpressionNumber)
     → IsUnder tree limit other
+    → IfSome found (IsOwn tree)
     → IfSome (apart_of found other) (IsOther tree limit)
-apart_is tree limit (Some place) other is = is
-apart_is tree limit None other is = tt
+apart_is tree limit (Some place) other is own = (is, own)
+apart_is tree limit None other is own = tt
 
-operand_apart_is :
+place_apart_is_own : (site : Site) (operand : ExpressionNumber)
+    → IfSome (place_apart site operand) (IsOwn site.tree.now)
+place_apart_is_own site operand = by (is_word_in_hl site operand)
+  where
+    by : (b : Bool) → IfSome (if b then None else direct_word site operand) (IsOwn site.tree.now)
+    by true = tt
+    by false = direct_word_is_own site operand
+
+pub operand_apart_is :
     (site : Site) (limit : ℕ) (comparison : Comparison)
     → IsUnder site.tree.now limit comparison.left → IsUnder site.tree.now limit comparison.right
     → IfSome (operand_apart site comparison)
@@ -167,14 +178,14 @@ operand_apart_is site limit comparison one two = by comparison.question
         (IsOther site.tree.now limit)
     on_right =
         apart_is site.tree.now limit
-        (place_apart site comparison.right) comparison.left one
+        (place_apart site comparison.right) comparison.left one (place_apart_is_own site comparison.right)
 
     allowed : (b : Bool)
         → IfSome (if b then apart_of (place_apart site comparison.left) comparison.right else None)
         (IsOther site.tree.now limit)
     allowed true =
         apart_is site.tree.now limit
-        (place_apart site comparison.left) comparison.right two
+        (place_apart site comparison.left) comparison.right two (place_apart_is_own site comparison.left)
     allowed false = tt
 
     either : (found : Option Apart)
@@ -215,11 +226,12 @@ with_place_fall :
     {site : Site} {limit : ℕ} (apart : Apart) (question : Question)
     (pushed : ℕ)
     → IsUnder site.tree.now limit apart.other
+    → IsOwn site.tree.now apart.place
     → Falls site limit (with_place_steps apart question pushed)
-with_place_fall {site = site} {limit = limit} apart question pushed is =
+with_place_fall {site = site} {limit = limit} apart question pushed is own =
     let begun : Falls site limit (part (tasks.Word apart.other) pushed ∷ load_a_steps apart.place) =
-    falls (is, tt) in
-    joined (joined (joined begun (low_fall in_hl question)) (falls tt)) (high_fall in_hl question)
+    falls (is, (own, tt)) in
+    joined (joined (joined begun (low_fall in_hl question)) (falls (after_is_own 1 own, tt))) (high_fall in_hl question)
 
 taken_fall :
     {site : Site} {limit : ℕ} (from taken : WordRegisters)
@@ -257,7 +269,7 @@ word_relation_fall {site = site} {limit = limit} comparison setting one two =
         → IsOther site.tree.now limit apart
         → Falls site limit (with_place_steps apart comparison.question setting.pushed)
     beside_place apart is =
-        with_place_fall apart comparison.question setting.pushed is
+        with_place_fall apart comparison.question setting.pushed is.0 is.1
 
 -- two ADDRESSes that are put into places where they can be compared
 pub words_fall :
@@ -274,4 +286,4 @@ words_fall {site = site} {limit = limit} comparison pushed one two =
     other : (apart : Apart)
         → IsOther site.tree.now limit apart
         → Falls site limit (part (tasks.Word apart.other) pushed ∷ [])
-    other apart is = falls (is, tt)
+    other apart is = falls (is.0, tt)

@@ -6,6 +6,7 @@ use Rattle.exprgen8080.specs.internal.WordShifts.{shifted_left_steps, zero_steps
 use Rattle.steps8080.specs.declared.step.Step.TheVariants as steps
 use Rattle.steps8080.specs.internal.Step.{plain}
 use Rattle.steps8080.specs.internal.Instructions.{set}
+use Rattle.steps8080.proofs.SiteNames.{IsOwn, after_is_own, direct_word_is_own, known_is_own, number_is_own}
 use Rattle.exprgen8080.proofs.Ranks.{Joining.{Falls, IsUnder, after_part, after_plain, by_finding, by_test, falls, joined, of_found, repeated}, Chains.{product_fall}, Addresses.{addition_fall}, Pairs.{pair_fall}, Bytes.{byte_operation_fall, byte_shifted_right_fall, computed_product_fall, division_fall, high_byte_fall, right_shift_fall, with_number_fall}}
 
 zero_fall :
@@ -13,7 +14,7 @@ zero_fall :
     → IsUnder site.tree.now limit value
     → Falls site limit (zero_steps value pushed)
 unfolding zero_steps
-zero_fall value pushed is = falls (is, tt)
+zero_fall value pushed is = falls (is, (number_is_own, tt))
 
 shifted_left_fall :
     {site : Site} {limit : ℕ} (value : ExpressionNumber) (count pushed : ℕ)
@@ -106,9 +107,11 @@ sum_fall :
 unfolding sum_steps
 sum_fall {site = site} operands pushed one two =
     by_finding (known site operands.right)
-    (λ place there. after_part one (addition_fall place))
+    (λ place there. after_part one
+    (addition_fall place (of_found (IsOwn site.tree.now) (known_is_own site operands.right) there)))
     (λ none. by_finding (known site operands.left)
-    (λ place there. after_part two (addition_fall place))
+    (λ place there. after_part two
+    (addition_fall place (of_found (IsOwn site.tree.now) (known_is_own site operands.left) there)))
     (λ neither. joined (pair_fall operands.left operands.right false pushed one two) (falls tt)))
 
 taken_from_fall :
@@ -127,9 +130,10 @@ taken_from_fall number = by (low number == 0)
 
 with_word_fall :
     {site : Site} {limit : ℕ} (place : Place) (on_low on_high : Operation)
+    → IsOwn site.tree.now place
     → Falls site limit (with_word_steps place on_low on_high)
 unfolding with_word_steps
-with_word_fall place on_low on_high = falls tt
+with_word_fall place on_low on_high own = falls (own, (after_is_own 1 own, tt))
 
 with_pair_fall :
     {site : Site} {limit : ℕ} (order : PairOrder)
@@ -149,6 +153,23 @@ paired_fall {site = site} operands on_low on_high pushed one two =
     joined (pair_fall operands.left operands.right false pushed one two)
     (with_pair_fall (pair_order site operands.left operands.right false) on_low on_high)
 
+left_word_is_own : (site : Site) (operands : Operands) → IfSome (left_word site operands) (IsOwn site.tree.now)
+unfolding left_word
+left_word_is_own site operands = by (direct_word site operands.left) (direct_word_is_own site operands.left)
+  where
+    if_exchanged : (place : Place) (b : Bool) → IsOwn site.tree.now place
+        → IfSome (if b then Some place else None) (IsOwn site.tree.now)
+    if_exchanged place true is = is
+    if_exchanged place false is = tt
+
+    by : (found : Option Place) → IfSome found (IsOwn site.tree.now)
+        → IfSome (elim found [
+          | Some place ↦ if may_exchange site operands.left operands.right then Some place else None
+          | None ↦ None
+        ]) (IsOwn site.tree.now)
+    by (Some place) is = if_exchanged place (may_exchange site operands.left operands.right) is
+    by None is = tt
+
 difference_fall :
     {site : Site} {limit : ℕ} (operands : Operands) (pushed : ℕ)
     → IsUnder site.tree.now limit operands.left → IsUnder site.tree.now limit operands.right
@@ -156,11 +177,12 @@ difference_fall :
 unfolding difference_steps
 difference_fall {site = site} operands pushed one two =
     by_finding (number_of site operands.right)
-    (λ number there. after_part one (addition_fall (Number ((65536 - number) % 65536))))
+    (λ number there. after_part one (addition_fall (Number ((65536 - number) % 65536)) number_is_own))
     (λ none. by_finding (number_of site operands.left)
     (λ number there. after_part two (taken_from_fall number))
     (λ neither. by_finding (left_word site operands)
-    (λ place there. after_part two (with_word_fall place Subtract SubtractWithBorrow))
+    (λ place there. after_part two (with_word_fall place Subtract SubtractWithBorrow
+    (of_found (IsOwn site.tree.now) (left_word_is_own site operands) there)))
     (λ no_place. paired_fall operands Subtract SubtractWithBorrow pushed one two)))
 
 through_a_fall :
@@ -231,23 +253,24 @@ logic_with_number_fall operation value number pushed is = both_halves_fall opera
 -- a byte that is evaluated second
 abbrev IsSimple : (tree : TreeModule) → (limit : ℕ) → Simple → Type 0
 IsSimple tree limit (simple.Byte byte) = IsUnder tree limit byte
-IsSimple tree limit (simple.Word place) = Unit {0}
+IsSimple tree limit (simple.Word place) = IsOwn tree place
 
 simple_is :
     (site : Site) (limit : ℕ) (number : ExpressionNumber)
     → IsUnder site.tree.now limit number
     → IfSome (simple_operand site number) (IsSimple site.tree.now limit)
 unfolding simple_operand
-simple_is site limit number is = by (fits_byte site number && is_free site number) (direct_word site number)
+simple_is site limit number is =
+    by (fits_byte site number && is_free site number) (direct_word site number) (direct_word_is_own site number)
   where
-    by : (b : Bool) (found : Option Place)
+    by : (b : Bool) (found : Option Place) → IfSome found (IsOwn site.tree.now)
         → IfSome
         (if b then Some (simple.Byte number)
         else elim found [ Some place ↦ Some (simple.Word place) | None ↦ None ])
         (IsSimple site.tree.now limit)
-    by true found = is
-    by false (Some place) = tt
-    by false None = tt
+    by true found own = is
+    by false (Some place) own = own
+    by false None own = tt
 
 exchanged_is :
     (site : Site) (limit : ℕ) (operands : Operands)
@@ -304,7 +327,7 @@ logic_with_simple_fall :
 unfolding logic_with_simple_steps logic_with_byte_steps
 logic_with_simple_fall operation value (simple.Byte byte) pushed one two = falls (one, (two, tt))
 logic_with_simple_fall operation value (simple.Word place) pushed one two =
-    after_part one (with_word_fall place operation operation)
+    after_part one (with_word_fall place operation operation two)
 
 computed_logic_fall :
     {site : Site} {limit : ℕ} (operation : Operation)

@@ -1,5 +1,5 @@
 -- The code that emission adds.
-use Rattle.std.specs.Prelude.{◌≡◌, ◌⊎◌, ℕ, Bool, true, false, List, [], ◌∷◌, None, replicate, length, slice_index_or}
+use Rattle.std.specs.Prelude.{◌≡◌, ◌⊎◌, ℕ, Bool, true, false, List, [], ◌∷◌, replicate, slice_index_or}
 use Rattle.asm8080.specs.declared.item.Item.{Item}
 use Rattle.asm8080.specs.declared.item.Item.TheVariants as items
 use Rattle.asm8080.specs.declared.item.WordForm.TheVariants.{CallTo}
@@ -105,7 +105,7 @@ pub record IsEmpty (tree : TreeModule) (emission : Emission) : Type 0 where
     code = record { items = []; labels = 0 };
     labels = [];
     marked = [];
-    externals = replicate (length tree.externals.items) None;
+    externals = [];
   }
   pub steps : emission.steps.list.items ≡ []
   pub labels : emission.steps.labels ≡ first_label tree

@@ -1,6 +1,6 @@
 -- Code as it is written. Its items name labels and EXTERNAL names by their numbers in the module; the code
 -- numbers both in the order of their first use.
-use Rattle.std.specs.Prelude.{◌≡◌, ◌==◌, ◌<◌, ◌⊎◌, ℕ, Bool, true, false, if◌then◌else◌, nat_lt, List, [], ◌∷◌, ◌++◌, length, map, slice_index_or, Option, Some, None, option_map}
+use Rattle.std.specs.Prelude.{◌≡◌, ◌==◌, ◌<◌, ◌≤◌, ◌⊎◌, ℕ, Bool, true, false, if◌then◌else◌, nat_lt, List, [], ◌∷◌, ◌++◌, length, map, slice_index_or, Option, Some, None, option_map}
 use Rattle.std.specs.List.{list_any}
 use Rattle.object_modules.specs.declared.segment.Segment.TheVariants as segments
 use Rattle.object_modules.specs.declared.segment.Target.TheVariants.{InSegment, External}
@@ -64,6 +64,15 @@ uses_name name item = false
 abbrev pub use_name : (name : ℕ) → List Item → Bool
 use_name name items = list_any (uses_name name) items
 
+-- items refer only to names with indices below a number
+pub record AreNamed (count : ℕ) (items : List Item) : Type 0 where
+  pub below : (name : ℕ) → use_name name items ≡ true → name < count
+
+-- a table of names gets longer, if at all, and no longer than the names that items refer to need
+pub record GrowsFor (before after : List (Option ℕ)) (items : List Item) : Type 0 where
+  pub longer : length before ≤ length after
+  pub within : (count : ℕ) → AreNamed count items → length before ≤ count → length after ≤ count
+
 -- a name gets a number only if items refer to it
 abbrev pub NumbersNames : (before after : List (Option ℕ)) → List Item → Type 0
 NumbersNames before after items =
@@ -119,7 +128,7 @@ pub record AreWritable (before : Written) (items : List Item) : Type 0 where
   pub new : (label : ℕ) → is_bound label items ≡ true → is_marked before.marked label ≡ false
 
 -- Items are appended to code, whole if they are writable. Numbers that were given before stay, the code has no label
--- more than the items name, and the table of names keeps its length.
+-- more than the items name, and the table of names grows no further than the items need.
 pub record Writes (before after : Written) (items : List Item) : Type 0 where
   pub made : List Item
   pub added : after.code.items ≡ before.code.items ++ made
@@ -129,7 +138,7 @@ pub record Writes (before after : Written) (items : List Item) : Type 0 where
   pub marked : MarksOnly before.marked after.marked items
   pub externals : Extends before.externals after.externals
   pub names : NumbersNames before.externals after.externals items
-  pub count : length after.externals ≡ length before.externals
+  pub grown : GrowsFor before.externals after.externals items
 
 -- A routine is appended to code, with a label of the module at its start. The module has no numbers for the
 -- routine's own labels.

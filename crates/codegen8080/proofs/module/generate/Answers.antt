@@ -1,4 +1,5 @@
 use Rattle.codegen8080.proofs.Prelude.{ap, length, Assembled, rules, subst, ◌∙◌, Extends, NumbersNames, contents_items, AreListed}
+use Rattle.codegen8080.proofs.ModuleParts.{data_within}
 use Rattle.codegen8080.proofs.Marked.{begin_in_code, called_by, lie_in_code, marked, size_made}
 use Rattle.codegen8080.proofs.NamedPlaces.{names_of_tree}
 use Rattle.codegen8080.proofs.ObjectParts.{generated, made_of_same}
@@ -6,12 +7,11 @@ use Rattle.codegen8080.specs.internal.Names.{Linkage}
 use Rattle.codegen8080.proofs.Refused.{code_refused, data_refused}
 use Rattle.codegen8080.proofs.module.generate.Goals as goal
 
-pub names_of-requires-clause-as_many : goal.names_of-requires-clause-as_many
-names_of-requires-clause-as_many c =
-    ap (λ table. length table) c.in_ok-variables.ensures.externals
-    ∙ c.in_ok-variables_of.ensures.count
-    ∙ ap (λ table. length table) c.in_ok-code.ensures.externals
-    ∙ c.in_ok-writer.ensures.written.code.count
+pub names_of-requires-clause-within : goal.names_of-requires-clause-within
+names_of-requires-clause-within c =
+    data_within c.args.tree.now c.in_ok-writer.field-0.writer.externals _ c.in_ok-variables_of.field-0.externals _
+    c.requires.source c.in_ok-writer.ensures.written.code.within c.in_ok-code.ensures.externals
+    c.in_ok-variables_of.ensures.grown c.in_ok-variables.ensures.externals
 
 pub returns-clause-made : goal.returns-clause-made
 returns-clause-made c =

@@ -1,4 +1,5 @@
-use Rattle.codegen8080.proofs.Prelude.{ap, length, subst, ◌∙◌, entry, NumbersNames, Writes, Written, contents_items}
+use Rattle.codegen8080.proofs.Prelude.{ap, subst, ◌∙◌, entry, NumbersNames, Writes, Written, contents_items}
+use Rattle.steps8080.specs.internal.Writer.{GrowsFor}
 use Rattle.codegen8080.proofs.{ModuleParts.{data_items}, PlacedLabels.{data_bound}}
 use Rattle.codegen8080.proofs.module.variables_of.Goals as goal
 
@@ -22,10 +23,12 @@ returns-clause-names c =
     (subst (λ (written : Written). NumbersNames written.externals c.put_contents.new.writer.externals
     (contents_items c.as_slice.result.now)) c.sharing-writer.ensures c.in_ok-put_contents.ensures.names)
 
-pub returns-clause-count : goal.returns-clause-count
-returns-clause-count c =
-    c.in_ok-put_contents.ensures.count
-    ∙ ap (λ (written : Written). length written.externals) c.sharing-writer.ensures
+pub returns-clause-grown : goal.returns-clause-grown
+returns-clause-grown c =
+    subst (λ contents. GrowsFor c.args.externals c.put_contents.new.writer.externals (contents_items contents))
+    c.as_slice.ensures.value
+    (subst (λ (written : Written). GrowsFor written.externals c.put_contents.new.writer.externals
+    (contents_items c.as_slice.result.now)) c.sharing-writer.ensures c.in_ok-put_contents.ensures.grown)
 
 pub returns-clause-bound : goal.returns-clause-bound
 returns-clause-bound c =

@@ -9,6 +9,6 @@ pub returns : goal.returns
 returns c =
     names_listed c.args.externals.now c.args.numbered.now c.numbers-numbers.result.now
     c.in_ok-places.places.items
-    c.in_ok-names.names c.numbers-numbers.ensures c.requires.as_many c.in_ok-places.ensures
+    c.in_ok-names.names c.numbers-numbers.ensures c.requires.within c.in_ok-places.ensures
     c.in_ok-names.ensures.names
     c.in_ok-names.ensures.publics

@@ -3,4 +3,4 @@ use Rattle.steps8080.proofs.Numbered.{no_numbering}
 use Rattle.steps8080.proofs.externals.Externals.new.Goals as goal
 
 pub invariant_of-result : goal.invariant_of-result
-invariant_of-result c = λ few. no_numbering c.in_ok-vec.field-0.items c.args.count (search rules)
+invariant_of-result c = λ few. no_numbering c.new.result.items (search rules)

@@ -9,7 +9,7 @@ returns c =
     (Address (AtTarget (External c.in_ok-number.number) c.args.offset))
     c.args.name c.self.view_is c.in_ok-emit_address.ensures.ok refl refl c.number.ensures.kept
     c.number.ensures.only
-    c.number.ensures.count
+    c.number.ensures.longer c.number.ensures.within
     (is_itself c.args.name)
     (ap
     (λ found. option_map Address

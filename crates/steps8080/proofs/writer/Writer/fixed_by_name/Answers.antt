@@ -8,7 +8,7 @@ returns c =
     (WithWord c.args.form (AtTarget (External c.args.name) c.args.offset))
     (WithWord c.args.form (AtTarget (External c.in_ok-number.number) c.args.offset))
     c.args.name c.self.view_is c.in_ok-emit_fixed.ensures.ok refl refl c.number.ensures.kept c.number.ensures.only
-    c.number.ensures.count
+    c.number.ensures.longer c.number.ensures.within
     (is_itself c.args.name)
     (ap
     (λ found. option_map (WithWord c.args.form)

@@ -1,6 +1,6 @@
 use Rattle.steps8080.proofs.Prelude.{refl, rules}
 use Rattle.steps8080.proofs.Numbered.{numbering_more}
-use Rattle.steps8080.proofs.externals.Externals.number.Goals as goal
+use Rattle.steps8080.proofs.externals.Externals.number_of.Goals as goal
 
 pub invariant_of-self : goal.invariant_of-self
 invariant_of-self c =
