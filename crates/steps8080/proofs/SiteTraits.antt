@@ -1,6 +1,6 @@
 -- What is known of a value at a site is what the traits of its node say.
-use Rattle.std.specs.Prelude.{◌≡◌, refl, ap, ◌∙◌, Option, Some, None, slice_get}
-use Rattle.std.specs.Option.{option_map_or}
+use Rattle.steps8080.proofs.Prelude.{◌≡◌, ◌∙◌, refl, ap, Option, Some, None, option_map_or}
+use Rattle.std.specs.Prelude.{slice_get}
 use Rattle.treecode.specs.declared.expression.Expression.{Expression}
 use Rattle.treecode.specs.declared.expression.ExpressionNumber.{ExpressionNumber}
 use Rattle.treecode.specs.declared.place.Place.{Place}
