@@ -9,7 +9,7 @@ use Rattle.treecode.specs.internal.Nodes.{nodes_of}
 use Rattle.treecode.specs.internal.Queries.{place_number}
 use Rattle.treecode.specs.internal.Traits.{known_at, no_traits, number_at}
 unfoldable use Rattle.steps8080.specs.internal.Queries.{known, number}
-use Rattle.steps8080.specs.internal.Site.{Site}
+use Rattle.steps8080.specs.declared.sites.site.Site.{Site}
 unfoldable use Rattle.steps8080.specs.internal.Site.{expression}
 
 -- the value that is known, if any
