@@ -14,7 +14,8 @@ use Rattle.steps8080.proofs.Numbered.{not_both}
 use Rattle.steps8080.specs.internal.Writer.{numbered_reference}
 use Rattle.codegen8080.specs.internal.Modules.{AreCodeOf, IsCodeOf}
 use Rattle.codegen8080.specs.internal.Sources.{IsOfModule}
-use Rattle.codegen8080.proofs.{LoweredStand.{item_within}, PlacedLabels.{binds_bound, bound_after, is_a_routine}, RoutinesStand.{IsOneOf}, SomeCode.{procedure_some}}
+use Rattle.treecode.proofs.OwnNames.{item_within}
+use Rattle.codegen8080.proofs.{PlacedLabels.{binds_bound, bound_after, is_a_routine}, RoutinesStand.{IsOneOf}, SomeCode.{procedure_some}}
 
 -- A label has its place in items, after so many bytes at least, and a byte comes after it.
 pub record BeginsFrom (low label : ℕ) (list : List Item) : Type 0 where

@@ -18,11 +18,11 @@ abbrev pub IsBefore : (end : ℕ) → CodePart → (place : ℕ) → Type 0
 IsBefore end (Routine routine) place = place < end
 IsBefore end part place = place ≤ end
 
--- a mark lies after so many bytes of constants, and not after the end of all code
+-- a mark lies after the constants, and not after the end of all code
 abbrev pub LiesWithin : (constants end : ℕ) → Mark → Type 0
 LiesWithin constants end mark = (constants ≤ mark.place) × IsBefore end mark.part mark.place
 
--- each mark lies in the code of an object module, after so many bytes of constants, or at its end
+-- each mark lies in the code of an object module, after its constants, or at its end
 abbrev pub LieInCode : (constants : ℕ) → ObjectModule → List Mark → Type 0
 LieInCode constants object marks = AllByRecursion (LiesWithin constants (length_of object Code)) marks
 

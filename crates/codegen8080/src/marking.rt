@@ -19,7 +19,7 @@ pub enum CodePart {
     Main,
     /// The beginning of a procedure, by its number.
     Procedure(u32),
-    /// A statement, and what comes after it up to the next one.
+    /// A statement, and the code after it up to the next one.
     Statement(StatementNumber),
     /// A routine.
     Routine(Routine),

@@ -40,7 +40,7 @@ fn add_zeros(bytes: &mut Vec<u8>, count: usize) -> Result<(), AllocError>
         (λ _. bytes.new.items ≡ bytes.old.items) }
 {
     let Some(end) = bytes.len().checked_add(count) else {
-        // No memory has so many bytes.
+        // No memory has this many bytes.
         return Err(AllocError);
     };
     bytes.resize(end, 0)

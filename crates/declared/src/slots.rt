@@ -56,7 +56,7 @@ fn size_of_members(members: &Members) -> Result<usize, AllocError>
     for position in 0..members.len() {
         if let Some(member) = members.get(position) {
             let Some(sum) = size.checked_add(member.size() as usize) else {
-                // No memory has so many bytes.
+                // No memory has this many bytes.
                 return Err(AllocError);
             };
             size = sum;
@@ -80,7 +80,7 @@ fn exact_size(object: &TypedObject) -> Result<usize, AllocError>
     };
     match count.checked_mul(element) {
         Some(size) => Ok(size),
-        // No memory has so many bytes.
+        // No memory has this many bytes.
         None => Err(AllocError),
     }
 }
@@ -145,7 +145,7 @@ impl FrameSlots {
         }
         let start = self.frame_sizes[procedure];
         let Some(end) = start.checked_add(size) else {
-            // No memory has so many bytes.
+            // No memory has this many bytes.
             return Err(AllocError);
         };
         self.objects.push(ObjectSlot {

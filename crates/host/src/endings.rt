@@ -24,7 +24,7 @@ pub enum Ending {
     WrongLine,
     /// The limit was met.
     Limit,
-    /// The machine came to a code that is none of the 8080's, or a port failed.
+    /// The machine came to a code that the 8080 does not have, or a port failed.
     Stopped,
     /// The program went outside the language.
     Outside,

@@ -8,7 +8,7 @@ use Rattle.stack_machine.specs.Ends.{IsCallOf}
 use Rattle.stack_machine.specs.declared.end.RunFault.{RunFault}
 use Rattle.stack_machine.specs.declared.end.RunFault.TheVariants as faults
 
--- the least number of which something holds
+-- the least number that has a property
 pub record IsLeast (holds : ℕ → Type 0) (number : ℕ) : Type 0 where
   pub here : holds number
   pub below : (other : ℕ) → other < number → holds other → ⊥

@@ -117,7 +117,7 @@ AllThere pieces address [] = Unit {0}
 AllThere pieces address (byte ∷ bytes) =
     (byte_in pieces address ≡ Some byte) × AllThere pieces (address + 1) bytes
 
--- an instruction lies at an address, within so many places
+-- an instruction lies at an address, in at most `room` bytes
 pub record LiesAt (pieces : List Piece) (address room : ℕ) (i : Instr) : Type 0 where
   pub there : AllThere pieces address (bytes_of i)
   pub within : length (bytes_of i) ≤ room

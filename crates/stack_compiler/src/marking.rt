@@ -13,7 +13,7 @@ pub enum StackPart {
     Main,
     /// The beginning of a procedure, by its number in its module.
     Procedure(usize),
-    /// A statement, and what comes after it up to the next part, by its number in its module; or the code of a loop after its
+    /// A statement, and the code after it up to the next part, by its number in its module; or the code of a loop after its
     /// body. The statements of procedures are counted first, by the numbers of these, and then those of the main program. In a
     /// body a statement comes after its parts and before the next statement, and a label is a statement.
     Statement(usize),
@@ -75,7 +75,7 @@ fn later_by(count: usize, part: StackPart) -> StackPart
     }
 }
 
-// The mark of a part of a module whose statements come after so many others.
+// The mark of a part of a module, after `before` statements of procedures.
 fn stack_mark(number_of_module: usize, before: usize, mark: PartMark) -> StackMark
     ensures { result ≡ stack_mark number_of_module before mark }
 {
@@ -86,7 +86,7 @@ fn stack_mark(number_of_module: usize, before: usize, mark: PartMark) -> StackMa
     }
 }
 
-// Adds the marks of parts of a module whose statements come after so many others.
+// Adds the marks of parts of a module, after `before` statements of procedures.
 #[tactic(auto, using(crate::proofs::Marked::mark_added, crate::proofs::Marked::marks_added))]
 fn add_marks(
     list: &mut Vec<StackMark>,

@@ -31,8 +31,8 @@ procedure_places place_at number [] = []
 procedure_places place_at number (procedure ∷ procedures) =
     place_at number ∷ procedure_places place_at (suc number) procedures
 
--- The marks of the code of a module: those of what stands before the routines, and then those of the routines that are called;
--- and the places of the labels of its procedures.
+-- The marks of the code of a module: those of its own code, and then those of the routines that are called; and the places of the
+-- labels of its procedures.
 pub record AreMarksOf (tree : TreeModule) (marks : List Mark) (procedures : List ℕ) : Type 0 where
   pub start_label : ℕ
   pub code : Written

@@ -1,4 +1,4 @@
--- Orders to run sources or objects, and what comes of them with the values of their options.
+-- Orders to run sources or objects, and what is printed for them with the values of their options.
 use Rattle.std.specs.Prelude.{ℕ, List, ◌++◌, Option}
 use Rattle.clap.specs.Words.{Text}
 use Rattle.host.specs.Files.{Directory}

@@ -8,7 +8,7 @@ use Rattle.layout.specs.StartingMemory.{Contents, contents_of_module, written}
 use Rattle.meaning.specs.Outcomes.{Program}
 use Rattle.meaning.specs.Access.{Surroundings}
 
--- the address so many bytes after one, where it lies in memory
+-- the address `count` bytes after one, if it lies in memory
 abbrev pub IsAfter : Option ℕ → (address count : ℕ) → Type 0
 IsAfter None address count = MEMORY_SIZE ≤ address + count
 IsAfter (Some next) address count = next ≡ address + count

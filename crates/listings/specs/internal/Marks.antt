@@ -18,7 +18,7 @@ abbrev pub is_before : (end : ℕ) → CodePart → (place : ℕ) → Bool
 is_before end (Routine routine) place = nat_lt place end
 is_before end part place = nat_le place end
 
--- marks lie after so many bytes of constants, and not after the end of all code
+-- marks lie after the constants, and not after the end of all code
 abbrev pub lies_within : (constants end : ℕ) → SourceMark → Bool
 lies_within constants end mark = nat_le constants mark.place && is_before end mark.part mark.place
 

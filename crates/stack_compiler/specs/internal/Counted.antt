@@ -49,7 +49,7 @@ numbered_bodies (first ∷ others) = numbered_body first + numbered_bodies other
 abbrev pub numbered_module : TypedModule → ℕ
 numbered_module typed = numbered_bodies typed.procedures + numbered_list typed.main.body
 
--- a part of a module with so many procedures and so many statements
+-- a part of a module with these counts of procedures and statements
 abbrev pub IsPartOf : (procedures statements : ℕ) → StackPart → Type 0
 IsPartOf procedures statements Main = Unit {0}
 IsPartOf procedures statements (Procedure number) = number < procedures
@@ -63,8 +63,8 @@ IsInModule modules mark = IsSomeAnd (slice_get modules mark.number_of_module)
 abbrev pub AreInModules : List TypedModule → List StackMark → Type 0
 AreInModules modules marks = AllByRecursion (IsInModule modules) marks
 
--- Marks of code that grows, of a module with so many procedures and statements; a part whose statement is not complete has the
--- number 0. At most `next` statements are complete.
+-- Marks of code that grows, of a module with these counts of procedures and statements; a part whose statement is not complete
+-- has the number 0. At most `next` statements are complete.
 pub record AreNumbered (procedures next statements : ℕ) (marks : Marks) : Type 0 where
   pub complete : marks.statements ≤ next
   pub parts : AllByRecursion (λ (mark : PartMark). IsPartOf procedures statements mark.part) marks.list.items
@@ -79,7 +79,7 @@ pub record Keeps (before after : Marks) : Type 0 where
   pub in_any : (procedures next statements : ℕ)
       → AreNumbered procedures next statements before → AreNumbered procedures next statements after
 
--- what completes at most so many statements, where their module has some more to spare
+-- what completes at most `count` statements, while `spare` more of the module are left
 pub record NumbersIn (procedures spare count : ℕ) (before after : Marks) : Type 0 where
   pub from : (next statements : ℕ) → (next + count) + spare ≤ statements
       → AreNumbered procedures next statements before → AreNumbered procedures (next + count) statements after
@@ -88,7 +88,7 @@ pub record NumbersIn (procedures spare count : ℕ) (before after : Marks) : Typ
 pub record Numbers (spare count : ℕ) (before after : Marks) : Type 0 where
   pub in_any : (procedures : ℕ) → NumbersIn procedures spare count before after
 
--- what has been completed of so many statements, where some are left
+-- what has been completed of `all` statements, while `left` are left
 pub record SoFar (procedures all left : ℕ) (before now : Marks) : Type 0 where
   pub done : ℕ
   pub numbers : NumbersIn procedures 0 done before now

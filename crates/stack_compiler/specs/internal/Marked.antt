@@ -13,7 +13,7 @@ later_by count Main = Main
 later_by count (Procedure number) = Procedure number
 later_by count (Statement number) = Statement (min (number + count) (2 ^ 64 - 1))
 
--- the mark of a part of a module whose statements come after so many others
+-- the mark of a part of a module, after `before` statements of procedures
 abbrev pub stack_mark : (number_of_module before : ℕ) → PartMark → StackMark
 stack_mark number_of_module before mark = record {
   part = later_by before mark.part;
@@ -25,11 +25,11 @@ stack_mark number_of_module before mark = record {
 abbrev pub main_mark : (number_of_module : ℕ) → StackMark
 main_mark number_of_module = record { part = Main; number_of_module = number_of_module; place = 0 }
 
--- each mark is of one of so many modules
+-- each mark is of one of `count` modules
 abbrev pub AreOfModules : (count : ℕ) → List StackMark → Type 0
 AreOfModules count marks = AllByRecursion (λ (mark : StackMark). mark.number_of_module < count) marks
 
--- the marks of procedures are of modules of a program with so many, and so is that of the main program
+-- the marks of procedures, and that of the main program, are of the `count` modules of a program
 pub record AreMarksOf (count : ℕ) (marks : ProgramMarks) : Type 0 where
   pub main : marks.main_module < count
   pub of_modules : AreOfModules count marks.list.items

@@ -18,7 +18,7 @@ IsNextOrStop done old (Stop end) new = ⊥
 IsNextOrStop done old (Input port) new = ⊥
 IsNextOrStop done old (Output port) new = ⊥
 
--- so many instructions further on, or past the end of the code
+-- `count` instructions after the next one, or past the end of the code
 abbrev pub IsAhead : (length count : ℕ) → StackMachine → Remaining → StackMachine → Type 0
 IsAhead length count old Nothing new = (old.at + 1 + count < length) × (new ≡ record old { at = old.at + 1 + count })
 IsAhead length count old (Stop end) new = (length ≤ old.at + 1 + count) × (end ≡ Ended) × (new ≡ old)
