@@ -49,6 +49,7 @@ pub(crate) fn text_of_words(
 ) -> Result<Option<Vec<u8>>, AllocError> {
     match command(seen.alloc, seen.words) {
         Ok(order) => lines_for(seen.alloc, &order, name, file),
+        // The words gave an order before, which was refused: so memory ran out.
         Err(_) => Err(AllocError),
     }
 }
