@@ -19,7 +19,8 @@ use Rattle.task_laws.proofs.Words.Pairs.{IsOperand, pair_then, same_rest}
 use Rattle.task_laws.proofs.Ranges.Ranges.{value_fits}
 use Rattle.task_laws.proofs.Relations.RelationValues.{relation_value}
 use Rattle.task_laws.proofs.Machine.RoutineCalls.{routine_then}
-use Rattle.task_laws.proofs.Machine.SiteNodes.{free_is, number_is, value_in}
+use Rattle.steps8080.proofs.SiteTraits.{number_is}
+use Rattle.task_laws.proofs.Machine.SiteNodes.{free_is, value_in}
 use Rattle.task_laws.proofs.Machine.Stages.{does_same}
 use Rattle.task_laws.proofs.Bytes.TwoBytes.{IsSimple, result_by, result_small, two_bytes}
 use Rattle.task_laws.proofs.Words.WordRoutines.{multiplied}

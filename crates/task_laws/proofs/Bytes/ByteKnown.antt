@@ -6,7 +6,8 @@ use Rattle.task_laws.proofs.Bytes.HighHalves.{byte_number_code}
 use Rattle.task_laws.proofs.Machine.KnownOperands.{KnownFits, bytes_differ, known_fits, known_small, word_fits}
 use Rattle.task_laws.proofs.Machine.Nodes.{NodeOf, node_of}
 use Rattle.task_laws.proofs.Machine.Rules.{ready_with_registers, word_goes}
-use Rattle.task_laws.proofs.Machine.SiteNodes.{free_is, known_is, known_means}
+use Rattle.steps8080.proofs.SiteTraits.{known_is}
+use Rattle.task_laws.proofs.Machine.SiteNodes.{free_is, known_means}
 use Rattle.task_laws.proofs.Machine.Stages.{does_same}
 
 -- a value is known at a site if its form says so

@@ -15,7 +15,7 @@ use Rattle.task_laws.proofs.Words.WordForms.{difference_small, taken_does}
 use Rattle.task_laws.proofs.Words.WordRoutines.{multiply_does, word_given_by}
 use Rattle.task_laws.proofs.Places.Products.{product_then}
 use Rattle.task_laws.proofs.Words.Multiples.{products_do}
-use Rattle.task_laws.proofs.Machine.SiteNodes.{known_is}
+use Rattle.steps8080.proofs.SiteTraits.{known_is}
 use Rattle.task_laws.proofs.Numbers.{address_is_word, product_is_word}
 
 -- a number at a site is that of its node

@@ -9,7 +9,8 @@ use Rattle.task_laws.proofs.Machine.Values.{KeepsThem, word_given, word_then}
 use Rattle.task_laws.proofs.Words.Pairs.{IsOperand, same_rest}
 use Rattle.task_laws.proofs.Words.PairedWords.{paired_does, sum_instructions, sum_makes}
 use Rattle.task_laws.proofs.Words.WordArithmetic.{has_word}
-use Rattle.task_laws.proofs.Machine.SiteNodes.{known_is, known_means}
+use Rattle.steps8080.proofs.SiteTraits.{known_is}
+use Rattle.task_laws.proofs.Machine.SiteNodes.{known_means}
 
 -- the registers that a node keeps are those at the site
 pub keeps_at_site : (context : Context) (of : ExpressionNumber)
