@@ -109,6 +109,6 @@ table_of_rules =
     ∷ record { parts = (parts.Is (classes.Reserved words.Interrupt)) ∷ []; action = Tells (codes "INTERRUPT: poll a status port in a loop, or link an object that calls the procedure") }
     ∷ record { parts = (parts.Is (classes.Reserved words.Enable)) ∷ (parts.Is (classes.Mark marks.Semicolon)) ∷ []; action = Tells (codes "ENABLE: delete it, or CALL an object that has EI") }
     ∷ record { parts = (parts.Is (classes.Reserved words.Disable)) ∷ (parts.Is (classes.Mark marks.Semicolon)) ∷ []; action = Tells (codes "DISABLE: delete it, or CALL an object that has DI") }
-    ∷ record { parts = (parts.Is (classes.Reserved words.Plus)) ∷ []; action = Tells (codes "A PLUS B: write ADC(A, B) of examples/arithmetic") }
-    ∷ record { parts = (parts.Is (classes.Reserved words.Minus)) ∷ []; action = Tells (codes "A MINUS B: write SBB(A, B) of examples/arithmetic") }
+    ∷ record { parts = (parts.Is (classes.Reserved words.Plus)) ∷ []; action = Tells (codes "A PLUS B: write ADC(A, B) of examples/arithmetic, for the + of the byte before too, after CARRY = 0") }
+    ∷ record { parts = (parts.Is (classes.Reserved words.Minus)) ∷ []; action = Tells (codes "A MINUS B: write SBB(A, B) of examples/arithmetic, for the - of the byte before too, after CARRY = 0") }
     ∷ []

@@ -379,11 +379,15 @@ pub static RULES: [Rule; 63] = [
     },
     Rule {
         parts: &[Part::Is(Class::Reserved(ReservedWord::Plus))],
-        action: Action::Tell("A PLUS B: write ADC(A, B) of examples/arithmetic"),
+        action: Action::Tell(
+            "A PLUS B: write ADC(A, B) of examples/arithmetic, for the + of the byte before too, after CARRY = 0",
+        ),
     },
     Rule {
         parts: &[Part::Is(Class::Reserved(ReservedWord::Minus))],
-        action: Action::Tell("A MINUS B: write SBB(A, B) of examples/arithmetic"),
+        action: Action::Tell(
+            "A MINUS B: write SBB(A, B) of examples/arithmetic, for the - of the byte before too, after CARRY = 0",
+        ),
     },
 ];
 
