@@ -3,6 +3,7 @@
 use crate::globals::{add_missing, show_declarations};
 use crate::kept_files::{Content, KeptFile, find_kept, kept_bytes};
 use crate::kinds::as_object;
+use crate::object_names::role_in;
 use crate::options::explain_value;
 use crate::page::{Page, Piece};
 use crate::ranges::add_ranges;
@@ -20,26 +21,17 @@ pub(crate) struct Seen<'s> {
     pub(crate) files: &'s [KeptFile],
 }
 
-// Whether bytes have others in them.
-fn has_bytes(bytes: &[u8], wanted: &[u8]) -> bool {
-    for (at, _) in bytes.iter().enumerate() {
-        if bytes.get(at..).unwrap_or(&[]).starts_with(wanted) {
-            return true;
-        }
-    }
-    false
-}
-
-// Adds the object files that have a name.
+// Adds the object files that have a name, and what each has it as.
 fn add_objects<'x>(page: &mut Page, files: &'x [KeptFile], name: &'x str) {
     for file in files {
         if let Content::Bytes(bytes) = &file.content
-            && has_bytes(bytes.as_slice(), name.as_bytes())
+            && let Some(role) = role_in(bytes.as_slice(), name.as_bytes())
         {
             page.line(&[
                 Piece::Shown(file.name.as_slice()),
-                Piece::Text(" has the name "),
+                Piece::Text(" has "),
                 Piece::Text(name),
+                Piece::Text(role),
             ]);
         }
     }

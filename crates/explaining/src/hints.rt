@@ -1,6 +1,6 @@
 //! What is likely wrong at a word of a source that cannot stand where it stands.
 
-use crate::left_out::cure_of;
+use crate::left_out::{cure_of, is_same_name};
 use crate::openers::{Opened, Opener};
 use crate::page::{Page, Piece};
 use words::{Kind, Mark, ReservedWord, Word};
@@ -52,6 +52,17 @@ const BEGINNING: [ReservedWord; 12] = [
     ReservedWord::Return,
 ];
 
+// What comes after a name where it is declared.
+const DECLARING: [Kind; 7] = [
+    Kind::Mark(Mark::Colon),
+    Kind::Reserved(ReservedWord::Address),
+    Kind::Reserved(ReservedWord::Based),
+    Kind::Reserved(ReservedWord::Byte),
+    Kind::Reserved(ReservedWord::Literally),
+    Kind::Reserved(ReservedWord::Structure),
+    Kind::Reserved(ReservedWord::Label),
+];
+
 // Whether a semicolon is likely missing between two words: they are on two lines, the first may end a statement, and the second
 // may begin one.
 fn lacks_semicolon(before: &Word, word: &Word) -> bool {
@@ -81,6 +92,31 @@ fn awaits_then(words: &[Word]) -> bool {
     is_awaited
 }
 
+// Whether the last statement of words is a name, or one with a list in parentheses, and no assignment.
+fn is_call(words: &[Word]) -> bool {
+    let mut is_begin = false;
+    let mut is_call = false;
+    for word in words {
+        match word.kind {
+            Kind::Name => {
+                is_call = is_call || is_begin;
+                is_begin = false;
+            }
+            Kind::Mark(Mark::Semicolon | Mark::Colon)
+            | Kind::Reserved(ReservedWord::Then | ReservedWord::Else) => {
+                is_begin = true;
+                is_call = false;
+            }
+            Kind::Reserved(_) | Kind::Mark(Mark::EqualSign) => {
+                is_begin = false;
+                is_call = false;
+            }
+            _ => is_begin = false,
+        }
+    }
+    is_call
+}
+
 // What is likely wrong at a word that may stand elsewhere, by itself and the word before it.
 fn hint_of_pair(before: &Word, word: &Word, open: &[Opener]) -> Option<Hint> {
     match (before.kind, word.kind) {
@@ -100,12 +136,45 @@ fn hint_of_pair(before: &Word, word: &Word, open: &[Opener]) -> Option<Hint> {
         | (Kind::Mark(Mark::Colon), Kind::Reserved(ReservedWord::Procedure)) => Some(Hint::Said(
             "Declarations and procedures come before the first statement of their block",
         )),
-        (before_kind, Kind::Reserved(ReservedWord::Else))
-            if before_kind != Kind::Mark(Mark::Semicolon) => {
-            Some(Hint::Said("A semicolon is missing before ELSE"))
+        (before_kind, Kind::Reserved(ReservedWord::Else)) => {
+            if before_kind == Kind::Mark(Mark::Semicolon) {
+                Some(Hint::Said(
+                    "ELSE comes after the one statement of THEN: DO; and END; go around several",
+                ))
+            } else {
+                Some(Hint::Said("A semicolon is missing before ELSE"))
+            }
+        }
+        (Kind::Mark(Mark::EqualSign), Kind::Mark(Mark::EqualSign)) => {
+            Some(Hint::Said("An assignment and a comparison both have one ="))
         }
         _ => None,
     }
+}
+
+// What is likely wrong at a word, by the words of its statement.
+fn hint_of_statement(before: &[Word], word: &Word) -> Option<Hint> {
+    match word.kind {
+        Kind::Mark(Mark::Semicolon) if is_call(before) => Some(Hint::Said(
+            "A statement that calls a procedure begins with CALL",
+        )),
+        Kind::Reserved(reserved) if awaits_then(before) && BEGINNING.contains(&reserved) => {
+            Some(Hint::Said("THEN may be missing before it"))
+        }
+        _ => None,
+    }
+}
+
+// Whether a name is declared in words, by its type, its text or its label: a name that comes before one of these.
+fn is_declared(words: &[Word], name: &[u8]) -> bool {
+    let mut is_after = false;
+    for word in words {
+        if is_after && DECLARING.contains(&word.kind) {
+            return true;
+        }
+        is_after = is_same_name(word.text, name);
+    }
+    false
 }
 
 // What to write for a word, where it is one that is left out, or FOREVER comes before it.
@@ -143,7 +212,14 @@ pub(crate) fn hint_at(before: &[Word], word: &Word, open: &[Opener]) -> Option<H
             },
             line: last.line,
         }),
-        [.., last] => hint_of_pair(last, word, open).or(hint_of_word(last, word)),
+        [.., last] => {
+            let hint = hint_of_pair(last, word, open).or(hint_of_statement(before, word));
+            if is_declared(before, word.text) {
+                hint
+            } else {
+                hint.or(hint_of_word(last, word))
+            }
+        }
     }
 }
 

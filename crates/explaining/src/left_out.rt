@@ -7,12 +7,12 @@ use sources::Name;
 const CURES: &str = "\
 BASED A name in parentheses has no BASED: DECLARE X BASED P BYTE, Y BASED Q BYTE
 BOOLEAN BOOLEAN came from an included file: DECLARE BOOLEAN LITERALLY 'BYTE'
-CARRY CARRY is left out: ADC(A, B), SBB(A, B), or CARRY of examples/arithmetic
+CARRY CARRY is left out: ADC(A, B), SBB(A, B), or CARRY of examples/arithmetic; after W = W + X of ADDRESS values IF W < X
 CR CR came from an included file: DECLARE CR LITERALLY '0DH'
 DEC DEC is left out: DEC$ADC, DEC$SBB, DEC$ADD and DEC$SUBTRACT of examples/arithmetic
-DISABLE Interrupts are left out: read a status port in a loop, as in examples/letters
+DISABLE DISABLE is left out: delete it, or CALL an object that has DI
 DWORD DWORD is of PL/M-86: two ADDRESS variables, as in examples/arithmetic
-ENABLE Interrupts are left out: read a status port in a loop, as in examples/letters
+ENABLE ENABLE is left out: delete it, or CALL an object that has EI
 EOF EOF after the module is left out: delete it
 FALSE FALSE came from an included file: DECLARE FALSE LITERALLY '0'
 FOREVER FOREVER came from an included file: DECLARE FOREVER LITERALLY 'WHILE 1'
@@ -22,9 +22,9 @@ INTERRUPT Interrupts are left out: read a status port in a loop, as in examples/
 LABEL A label needs no declaration: delete it
 LF LF came from an included file: DECLARE LF LITERALLY '0AH'
 MEMORY MEMORY is left out: DECLARE MEMORY(4096) BYTE AT (8000H)
-MINUS MINUS is left out: SBB(A, B)
+MINUS MINUS is left out: SBB(A, B) of examples/arithmetic, for the - of the byte before too, after CARRY = 0
 PARITY PARITY is left out: compare the value
-PLUS PLUS is left out: ADC(A, B)
+PLUS PLUS is left out: ADC(A, B) of examples/arithmetic, for the + of the byte before too, after CARRY = 0
 POINTER POINTER is of PL/M-86: ADDRESS
 SCL SCL is left out: SCL of examples/arithmetic; of several bytes SHIFT$LEFT
 SCR SCR is left out: SCR of examples/arithmetic; of several bytes SHIFT$RIGHT

@@ -15,6 +15,7 @@ mod lengths;
 mod lines;
 mod meanings;
 mod named;
+mod object_names;
 mod openers;
 mod options;
 mod origins;

@@ -16,7 +16,7 @@ use sources::{LONGEST_SOURCE, Place, ReadFault, read_source};
 use std::alloc::Global;
 use std::fmt;
 use std::fmt::Write;
-use words::Word;
+use words::{Kind, Mark, Word};
 
 // Why a text is refused, where it is, and there is memory to tell.
 fn fault_of(page: &mut Page, alloc: Global, text: &[u8]) -> Option<ReadFault> {
@@ -133,6 +133,14 @@ impl<'a> Refused<'_, 'a, '_, '_> {
         }
     }
 
+    // Whether the word at fault comes after a dot, as the name of a member.
+    fn is_member(&self) -> bool {
+        match self.before {
+            [.., last] => last.kind == Kind::Mark(Mark::Period),
+            [] => false,
+        }
+    }
+
     // The word at fault, where it stands in the text as it is, or is the only one of the text that it is put in for.
     fn word(&self) -> Option<Word<'a>> {
         match self.after {
@@ -226,7 +234,9 @@ fn explain_name(page: &mut Page, refused: &Refused) {
                 Piece::Text("A number begins with a digit: 0"),
                 Piece::Shown(word.text),
             ]);
-        } else if let Some(cure) = cure_of(word.text) {
+        } else if let Some(cure) = cure_of(word.text)
+            && !refused.is_member()
+        {
             page.sentence(&[Piece::Text(cure)]);
         } else if let Some(line) = find_named(refused.words, word.text, true) {
             page.sentence(&[

@@ -1,7 +1,7 @@
 //! What is printed of the numbers of faults of the modules of a program together, of their places, and of files and options; and of the ends of runs. `tools/faults --write` makes it of docs/faults.md.
 
 /// The pages, with form feeds between them. Each begins with its number, on a line of its own.
-pub const PROGRAMS: [u8; 10786] = *b"\
+pub const PROGRAMS: [u8; 10953] = *b"\
 J1
 
 An EXTERNAL name that no module has as PUBLIC, used or not. \"Where\" is the name.
@@ -21,7 +21,7 @@ wrong.plm:
     END M;
 
 Printed: `J1 SHOW 0`. Cure: name the module with `SHOW: PROCEDURE PUBLIC;` on
-the command line too.
+the command line too. If it is named, PUBLIC is missing where it declares SHOW.
 \x0cJ2
 
 Two PUBLICs with one name, in two modules. Often a module was named twice.
@@ -113,8 +113,9 @@ An external name that no object has as public. `main.obj` calls S:
     $ ./plm link --out p.obj examples/objects/main.obj
     L2 S 0
 
-Cure: name the object that has S as well. All objects of a program are linked in
-one call; a merge has no external names.
+Cure: name the object that has S as well. If it is named, PUBLIC is missing in
+its source. All objects of a program are linked in one call; a merge has no
+external names.
 \x0cL3
 
 The code, the data or the stack of all modules takes more than 65535 bytes. In
@@ -284,19 +285,20 @@ With `--where` a line after it says in which line of the source that was
 (`docs/commands.md`).
 \x0cOUTSIDE
 
-Line                Meaning                            Usually
-------------------  ---------------------------------  -------------------------
-`OUTSIDE DIVIDE`    `/` or MOD by 0 (status 5, like    an empty table, a count
-                      the next three)                    of 0
-`OUTSIDE BYTE`      a byte was read or written that    a subscript too large, a
-                      is not declared, or past the       base that was never
-                      dimension of a variable in a       set, an absolute
-                      REENTRANT procedure                address without AT
-`OUTSIDE CONSTANT`  a byte of DATA or of a constant    MOVE or a BASED object
-                      list was written                   into a text
-`OUTSIDE STACK`     a call for which the stack has no  a recursion without end,
-                      room                               or a deep one: a larger
-                                                         `--stack-size`
+Line                Meaning                          Usually
+------------------  -------------------------------  ---------------------------
+`OUTSIDE DIVIDE`    `/` or MOD by 0 (status 5, like  an empty table, a count of
+                      the next three)                  0
+`OUTSIDE BYTE`      a byte was read or written that  a subscript too large, a
+                      is not declared, or past the     base that was never set,
+                      dimension of a variable in a     an absolute address
+                      REENTRANT procedure              without AT
+`OUTSIDE CONSTANT`  a byte of DATA or of a constant  MOVE or a BASED object into
+                      list was written                 a text
+`OUTSIDE STACK`     a call for which the stack has   a recursion without end, or
+                      no room                          a deep one: a larger
+                                                       `--stack-size`, as
+                                                       `plm locate --need` says
 
 With `--where` a line after it says in which line of the source that was
 (`docs/commands.md`).

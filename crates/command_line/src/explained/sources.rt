@@ -1,7 +1,7 @@
 //! What is printed of the numbers of faults of a source, and of its code. `tools/faults --write` makes it of docs/faults.md.
 
 /// The pages, with form feeds between them. Each begins with its number, on a line of its own.
-pub const SOURCES: [u8; 18040] = *b"\
+pub const SOURCES: [u8; 18159] = *b"\
 C1
 
 A character that is not allowed there, or a string that is not closed on its
@@ -152,6 +152,7 @@ a statement without its        the next word     the semicolon
 `V(I := I + 1)`,               `:=`              `V((I := I + 1))`: its own
   `CALL P(A := 1)`                                 parentheses
 `CALL P();`                    `)`               `CALL P;`
+`P(3);`                        the semicolon     `CALL P(3);`
 `A < B < C`                    the second `<`    `A < B AND B < C`
 a DECLARE or a procedure       the DECLARE or    put it before the first
   after a statement              the procedure     statement, or open a `DO;`
@@ -295,6 +296,8 @@ an array without a subscript, or a   one subscript for an array, none for a
   type
 `A = P;` of a procedure without a    `CALL P;`, or a type in its heading
   type
+`F = A;` in a procedure F, for its   `RETURN A;`
+  value
 `CALL P(1);` where P has two         as many arguments as parameters
   parameters
 `CALL W;` through a variable         a DO CASE of calls, or a procedure of one
