@@ -1,6 +1,6 @@
 //! What is printed of how a command ended.
 
-use crate::globals::{add_missing, show_declarations};
+use crate::globals::{Declarations, add_missing, show_declarations};
 use crate::kept_files::{Content, KeptFile, find_kept, kept_bytes};
 use crate::kinds::as_object;
 use crate::object_names::role_in;
@@ -54,7 +54,11 @@ fn cause_of(seen: &Seen, told: Told) -> &'static str {
 fn explain_program(page: &mut Page, seen: &Seen, told: Told) {
     match told.number.as_bytes() {
         [b'J', b'1'..=b'3'] => {
-            show_declarations(page, seen.alloc, seen.files, told.place.as_bytes());
+            let wanted = Declarations {
+                name: told.place.as_bytes(),
+                with_parameters: told.number == "J3",
+            };
+            show_declarations(page, seen, wanted);
         }
         [b'L', b'1' | b'2'] => add_objects(page, seen.files, told.place),
         _ => {}

@@ -1,5 +1,6 @@
 //! The names that the modules of a program share.
 
+use crate::explanation::Seen;
 use crate::kept_files::{Content, KeptFile};
 use crate::left_out::is_same_name;
 use crate::lines::show_line_of;
@@ -9,6 +10,13 @@ use sources::{Name, read_source};
 use std::alloc::{AllocError, Global};
 use typed_trees::{GlobalItem, Typed, Visibility};
 use words::{Kind, Mark, ReservedWord};
+
+/// Which declarations are shown: those of a name, and of a procedure those of its parameters too.
+#[derive(Clone, Copy)]
+pub(crate) struct Declarations<'n> {
+    pub(crate) name: &'n [u8],
+    pub(crate) with_parameters: bool,
+}
 
 // The PUBLIC and the EXTERNAL names of modules, each in the order of the modules.
 #[derive(Drop)]
@@ -97,23 +105,33 @@ pub(crate) fn add_missing(page: &mut Page, alloc: Global, files: &[KeptFile]) {
 }
 
 // Shows the lines of a source that declare a name as PUBLIC or EXTERNAL: of each statement that has one of these words, the
-// line on which the name stands first.
-fn show_in(page: &mut Page, alloc: Global, file: &KeptFile, text: &[u8], name: &[u8]) {
-    let (_plain, words) = words_of(page, alloc, text);
+// line on which the name stands first; and of a procedure the line of a DECLARE directly after its heading, if wanted.
+fn show_in(page: &mut Page, seen: &Seen, file: &KeptFile, text: &[u8], wanted: Declarations) {
+    let name = wanted.name;
+    let (_plain, words) = words_of(page, seen.alloc, text);
     let mut line = None;
     let mut is_shared = false;
+    let mut is_procedure = false;
+    let mut is_headed = false;
     for word in &words {
+        if is_headed && word.kind == Kind::Reserved(ReservedWord::Declare) {
+            show_line_of(page, file.name.as_slice(), text, word.line);
+        }
+        is_headed = false;
         if line.is_none() && is_same_name(word.text, name) {
             line = Some(word.line);
         }
         match word.kind {
             Kind::Reserved(ReservedWord::Public | ReservedWord::External) => is_shared = true,
+            Kind::Reserved(ReservedWord::Procedure) => is_procedure = true,
             Kind::Mark(Mark::Semicolon) => {
                 if is_shared && let Some(line) = line {
                     show_line_of(page, file.name.as_slice(), text, line);
+                    is_headed = is_procedure && wanted.with_parameters;
                 }
                 line = None;
                 is_shared = false;
+                is_procedure = false;
             }
             _ => {}
         }
@@ -121,10 +139,10 @@ fn show_in(page: &mut Page, alloc: Global, file: &KeptFile, text: &[u8], name: &
 }
 
 /// Shows the lines of the sources that declare a name as PUBLIC or EXTERNAL.
-pub(crate) fn show_declarations(page: &mut Page, alloc: Global, files: &[KeptFile], name: &[u8]) {
-    for file in files {
+pub(crate) fn show_declarations(page: &mut Page, seen: &Seen, wanted: Declarations) {
+    for file in seen.files {
         if let Content::Bytes(text) = &file.content {
-            show_in(page, alloc, file, text.as_slice(), name);
+            show_in(page, seen, file, text.as_slice(), wanted);
         }
     }
 }
