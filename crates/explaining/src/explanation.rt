@@ -1,6 +1,6 @@
 //! What is printed of how a command ended.
 
-use crate::globals::{Declarations, add_missing, show_declarations};
+use crate::globals::{Declarations, add_mains, add_missing, show_declarations};
 use crate::kept_files::{Content, KeptFile, find_kept, kept_bytes};
 use crate::kinds::as_object;
 use crate::object_names::role_in;
@@ -60,6 +60,7 @@ fn explain_program(page: &mut Page, seen: &Seen, told: Told) {
             };
             show_declarations(page, seen, wanted);
         }
+        [b'J', b'4'] => add_mains(page, seen.alloc, seen.files),
         [b'L', b'1' | b'2'] => add_objects(page, seen.files, told.place),
         _ => {}
     }

@@ -104,6 +104,28 @@ pub(crate) fn add_missing(page: &mut Page, alloc: Global, files: &[KeptFile]) {
     }
 }
 
+// Whether a text is a module with statements of its own.
+fn has_statements(alloc: Global, text: &[u8]) -> bool {
+    match read_source(alloc, text) {
+        Ok(module) => !module.typed.main.body.statements.as_slice().is_empty(),
+        Err(_) => false,
+    }
+}
+
+/// Adds the sources whose modules have statements.
+pub(crate) fn add_mains<'x>(page: &mut Page, alloc: Global, files: &'x [KeptFile]) {
+    for file in files {
+        if let Content::Bytes(text) = &file.content
+            && has_statements(alloc, text.as_slice())
+        {
+            page.line(&[
+                Piece::Shown(file.name.as_slice()),
+                Piece::Text(" has statements"),
+            ]);
+        }
+    }
+}
+
 // Shows the lines of a source that declare a name as PUBLIC or EXTERNAL: of each statement that has one of these words, the
 // line on which the name stands first; and of a procedure the line of a DECLARE directly after its heading, if wanted.
 fn show_in(page: &mut Page, seen: &Seen, file: &KeptFile, text: &[u8], wanted: Declarations) {
