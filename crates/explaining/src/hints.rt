@@ -52,7 +52,7 @@ const BEGINNING: [ReservedWord; 12] = [
     ReservedWord::Return,
 ];
 
-// What comes after a name where it is declared.
+// The words and marks that follow a name in its declaration.
 const DECLARING: [Kind; 7] = [
     Kind::Mark(Mark::Colon),
     Kind::Reserved(ReservedWord::Address),

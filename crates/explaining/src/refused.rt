@@ -16,7 +16,7 @@ use sources::{LONGEST_SOURCE, Place, ReadFault, read_source};
 use std::alloc::Global;
 use std::fmt;
 use std::fmt::Write;
-use words::{Kind, Mark, Word};
+use words::{Kind, Mark, ReservedWord, Word};
 
 // Why a text is refused, where it is, and there is memory to tell.
 fn fault_of(page: &mut Page, alloc: Global, text: &[u8]) -> Option<ReadFault> {
@@ -172,7 +172,18 @@ fn explain_word(page: &mut Page, refused: &Refused) {
     refused.add_expansion(page);
 }
 
-// Adds that a text ends before its module does, and what is still open.
+// Whether words end with END, or with END and a name.
+fn ends_with_end(words: &[Word]) -> bool {
+    match words {
+        [.., end, last] if last.kind == Kind::Name => {
+            end.kind == Kind::Reserved(ReservedWord::End)
+        }
+        [.., last] => last.kind == Kind::Reserved(ReservedWord::End),
+        [] => false,
+    }
+}
+
+// Adds that a text ends before its module does, and what is still open, or what is missing.
 fn explain_end(page: &mut Page, refused: &Refused) {
     if refused.words.is_empty() {
         add_origins(page, refused.seen, refused.told, refused.text);
@@ -191,6 +202,8 @@ fn explain_end(page: &mut Page, refused: &Refused) {
             Piece::Text(" is still open"),
         ]);
         show_line(page, refused.text, last.line);
+    } else if ends_with_end(refused.words) {
+        page.sentence(&[Piece::Text("A semicolon is missing after the last END")]);
     }
 }
 
