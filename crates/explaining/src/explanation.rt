@@ -6,9 +6,10 @@ use crate::kinds::as_object;
 use crate::object_names::role_in;
 use crate::options::explain_value;
 use crate::page::{Page, Piece};
-use crate::ranges::add_ranges;
+use crate::ranges::{add_object, add_ranges};
 use crate::refused::explain_source;
 use crate::told::{Told, told_in};
+use commands::read;
 use std::alloc::Global;
 
 /// What is looked at beside the line of a fault: the words of the command line, the names of tables of lines, and the files
@@ -37,6 +38,29 @@ fn add_objects<'x>(page: &mut Page, files: &'x [KeptFile], name: &'x str) {
     }
 }
 
+// Adds an external name of an object file.
+fn add_external<'x>(page: &mut Page, file: &'x [u8], name: &'x [u8]) {
+    page.line(&[
+        Piece::Shown(file),
+        Piece::Text(" has "),
+        Piece::Shown(name),
+        Piece::Text(" as external"),
+    ]);
+}
+
+// Adds the external names of the object files that were read.
+fn add_externals(page: &mut Page, seen: &Seen) {
+    for file in seen.files {
+        if let Content::Bytes(bytes) = &file.content
+            && let Ok(object) = read(seen.alloc, bytes.as_slice())
+        {
+            for name in object.externals() {
+                add_external(page, file.name.as_slice(), name.as_slice());
+            }
+        }
+    }
+}
+
 // What a fault means: of a file that can't be read, and of one that is no object file, by what is known of the file.
 fn cause_of(seen: &Seen, told: Told) -> &'static str {
     let cause = match (told.number.as_bytes(), find_kept(seen.files, told.place)) {
@@ -56,17 +80,28 @@ fn explain_program(page: &mut Page, seen: &Seen, told: Told) {
         [b'J', b'1'..=b'3'] => {
             let wanted = Declarations {
                 name: told.place.as_bytes(),
+                with_at: false,
                 with_parameters: told.number == "J3",
             };
             show_declarations(page, seen, wanted);
         }
         [b'J', b'4'] => add_mains(page, seen.alloc, seen.files),
+        [b'J', b'5'] => {
+            let wanted = Declarations {
+                name: told.place.as_bytes(),
+                with_at: true,
+                with_parameters: false,
+            };
+            show_declarations(page, seen, wanted);
+        }
         [b'L', b'1' | b'2'] => add_objects(page, seen.files, told.place),
+        [b'P', b'3'] => add_externals(page, seen),
         _ => {}
     }
     page.cause(cause_of(seen, told), told.number);
     match told.number.as_bytes() {
         [b'J', b'1'] => add_missing(page, seen.alloc, seen.files),
+        [b'J', b'5'] => add_object(page, seen, told.place),
         [b'P', b'1'] => add_ranges(page, seen, true),
         [b'P', b'2'] => add_ranges(page, seen, false),
         _ => {}

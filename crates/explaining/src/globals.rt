@@ -11,11 +11,24 @@ use std::alloc::{AllocError, Global};
 use typed_trees::{GlobalItem, Typed, Visibility};
 use words::{Kind, Mark, ReservedWord};
 
-/// Which declarations are shown: those of a name, and of a procedure those of its parameters too.
+/// Which declarations are shown: those of a name that have PUBLIC or EXTERNAL, and of a procedure those of its parameters too;
+/// or those that have AT.
 #[derive(Clone, Copy)]
 pub(crate) struct Declarations<'n> {
     pub(crate) name: &'n [u8],
+    pub(crate) with_at: bool,
     pub(crate) with_parameters: bool,
+}
+
+impl Declarations<'_> {
+    // Whether a declaration with this word is shown.
+    fn is_of(self, word: ReservedWord) -> bool {
+        match word {
+            ReservedWord::Public | ReservedWord::External => !self.with_at,
+            ReservedWord::At => self.with_at,
+            _ => false,
+        }
+    }
 }
 
 // The PUBLIC and the EXTERNAL names of modules, each in the order of the modules.
@@ -126,13 +139,13 @@ pub(crate) fn add_mains<'x>(page: &mut Page, alloc: Global, files: &'x [KeptFile
     }
 }
 
-// Shows the lines of a source that declare a name as PUBLIC or EXTERNAL: of each statement that has one of these words, the
-// line on which the name stands first; and of a procedure the line of a DECLARE directly after its heading, if wanted.
+// Shows the lines of a source that declare a name with a word that is wanted: of each statement that has one, the line on
+// which the name stands first; and of a procedure the line of a DECLARE directly after its heading, if wanted.
 fn show_in(page: &mut Page, seen: &Seen, file: &KeptFile, text: &[u8], wanted: Declarations) {
     let name = wanted.name;
     let (_plain, words) = words_of(page, seen.alloc, text);
     let mut line = None;
-    let mut is_shared = false;
+    let mut is_wanted = false;
     let mut is_procedure = false;
     let mut is_headed = false;
     for word in &words {
@@ -144,15 +157,15 @@ fn show_in(page: &mut Page, seen: &Seen, file: &KeptFile, text: &[u8], wanted: D
             line = Some(word.line);
         }
         match word.kind {
-            Kind::Reserved(ReservedWord::Public | ReservedWord::External) => is_shared = true,
             Kind::Reserved(ReservedWord::Procedure) => is_procedure = true,
+            Kind::Reserved(reserved) => is_wanted = is_wanted || wanted.is_of(reserved),
             Kind::Mark(Mark::Semicolon) => {
-                if is_shared && let Some(line) = line {
+                if is_wanted && let Some(line) = line {
                     show_line_of(page, file.name.as_slice(), text, line);
                     is_headed = is_procedure && wanted.with_parameters;
                 }
                 line = None;
-                is_shared = false;
+                is_wanted = false;
                 is_procedure = false;
             }
             _ => {}
@@ -160,7 +173,7 @@ fn show_in(page: &mut Page, seen: &Seen, file: &KeptFile, text: &[u8], wanted: D
     }
 }
 
-/// Shows the lines of the sources that declare a name as PUBLIC or EXTERNAL.
+/// Shows the lines of the sources that declare a name as it is wanted.
 pub(crate) fn show_declarations(page: &mut Page, seen: &Seen, wanted: Declarations) {
     for file in seen.files {
         if let Content::Bytes(text) = &file.content {

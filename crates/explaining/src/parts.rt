@@ -3,10 +3,11 @@
 use crate::page::{Page, Piece};
 use commands::MEMORY_SIZE;
 
-/// A part of a program: its name, the first of its addresses, and the one after its last.
+/// A part of a program: its name, with a word before it or none, the first of its addresses, and the one after its last.
 #[derive(Clone, Copy)]
-pub(crate) struct Part {
-    pub(crate) name: &'static str,
+pub(crate) struct Part<'n> {
+    pub(crate) before: &'static str,
+    pub(crate) name: &'n str,
     pub(crate) start: u32,
     pub(crate) end: u32,
 }
@@ -22,6 +23,7 @@ pub(crate) fn add_lines(page: &mut Page, parts: &[Part]) {
                     end: part.end,
                 },
                 Piece::Text(" "),
+                Piece::Text(part.before),
                 Piece::Text(part.name),
                 Piece::Text(", "),
                 Piece::Number(size),
@@ -37,6 +39,7 @@ pub(crate) fn add_passing(page: &mut Page, parts: &[Part]) {
         if part.end > MEMORY_SIZE as u32 {
             page.sentence(&[
                 Piece::Text("The "),
+                Piece::Text(part.before),
                 Piece::Text(part.name),
                 Piece::Text(" passes FFFF"),
             ]);
@@ -44,16 +47,18 @@ pub(crate) fn add_passing(page: &mut Page, parts: &[Part]) {
     }
 }
 
-// Adds which of others a part meets, and at which addresses.
-fn add_meetings_of(page: &mut Page, part: Part, others: &[Part]) {
+/// Adds which of others a part meets, and at which addresses.
+pub(crate) fn add_meetings_of<'x>(page: &mut Page, part: Part<'x>, others: &'x [Part<'x>]) {
     for other in others {
         let start = part.start.max(other.start);
         let end = part.end.min(other.end);
         if start < end {
             page.sentence(&[
                 Piece::Text("The "),
+                Piece::Text(part.before),
                 Piece::Text(part.name),
                 Piece::Text(" and the "),
+                Piece::Text(other.before),
                 Piece::Text(other.name),
                 Piece::Text(" meet at "),
                 Piece::Addresses { start, end },
@@ -63,7 +68,7 @@ fn add_meetings_of(page: &mut Page, part: Part, others: &[Part]) {
 }
 
 /// Adds which parts meet, and where.
-pub(crate) fn add_meetings(page: &mut Page, parts: &[Part]) {
+pub(crate) fn add_meetings<'x>(page: &mut Page, parts: &'x [Part<'x>]) {
     let mut rest = parts;
     while let [part, more @ ..] = rest {
         add_meetings_of(page, *part, more);
