@@ -8,7 +8,6 @@ pub mod Charge
 pub mod Weight
 pub mod Jumps
 pub mod Views
-pub mod internal
 pub mod Storable
 pub mod Frames
 pub mod Globals

@@ -5,8 +5,8 @@ ghost use Rattle.std.specs.Option.{option_map};
 ghost use Rattle.typed_trees.specs.Sizes.{capped, has_member, member_named, size_of_member};
 
 use crate::parts::TypedMember;
-use indexmap::IndexMap;
 use std::alloc::{AllocError, Global};
+use std::collections::HashMap;
 use std::marker::Model;
 use trees::{Name, ScalarType};
 
@@ -19,33 +19,29 @@ pub struct FoundMember {
     pub member: TypedMember,
 }
 
-/// The entry of a member in the table, beside its name: its offset is after the members before it.
-#[derive(Clone, Copy)]
-pub(crate) struct Entry {
-    dimension: Option<u16>,
-    scalar: ScalarType,
-    offset: u32,
-}
-
-/// The members of a structure, in their order.
+/// The members of a structure, in their order, with what is found under the name of each.
 pub struct Members {
-    entries: IndexMap<Name, Entry>,
+    members: Vec<TypedMember>,
+    found: HashMap<Name, FoundMember>,
     size: u32,
 }
 
 impl Model for Members {
-    ghost use Rattle.std.specs.Prelude.{◌≡◌, List, min, sum_by};
+    ghost use Rattle.std.specs.Prelude.{◌≡◌, ℕ, List, min, sum_by};
+    ghost use Rattle.std.specs.Option.{option_map};
+    ghost use Rattle.std.specs.Map.{lookup};
+    ghost use Rattle.std.specs.Str.{bytes_eq};
     ghost use Rattle.typed_trees.specs.declared.parts.TypedMember.{TypedMember};
-    ghost use Rattle.typed_trees.specs.Sizes.{size_of_member};
-    ghost use Rattle.typed_trees.specs.internal.Members.{IsLaidOut, members_of};
+    ghost use Rattle.typed_trees.specs.Sizes.{capped, member_named, size_of_member};
 
     ghost Value = { List TypedMember };
 
-    ghost view = { λ members. members_of members.entries.entries };
+    ghost view = { λ members. members.members.items };
 
     ghost invariant = { λ members. record {
-      laid_out : IsLaidOut 0 members.entries.entries;
-      whole : members.size ≡ min (sum_by size_of_member (members_of members.entries.entries)) 4294967295;
+      found : (name : List ℕ) → lookup (bytes_eq name) members.found.entries
+          ≡ option_map capped (member_named members.members.items name);
+      whole : members.size ≡ min (sum_by size_of_member members.members.items) 4294967295;
     } };
 }
 
@@ -55,62 +51,54 @@ impl Members {
         ensures { result ≡ [] }
     {
         Members {
-            entries: IndexMap::new(alloc),
+            members: Vec::new(alloc),
+            found: HashMap::new(alloc),
             size: 0,
         }
     }
 
     /// Adds a member after the others. `false`: a member has that name already, and nothing changes.
-    #[tactic(auto, using(crate::proofs::MemberTable::has_name, crate::proofs::MemberTable::pushed_laid_out, crate::proofs::MemberTable::pushed_members, crate::proofs::MemberTable::pushed_whole))]
+    #[tactic(auto, using(crate::proofs::MemberTable::has_name))]
     pub fn push(&mut self, member: TypedMember) -> Result<bool, AllocError>
         ensures added { IfOk result (λ added. added ≡ not (has_member self.old member.name)) }
         ensures members { IfOk result (λ added.
             self.new ≡ (if added then self.old ++ member ∷ [] else self.old)) }
     {
-        if self.entries.contains_key(&member.name) {
+        if self.found.contains_key(&member.name) {
             return Ok(false);
         }
-        let entry = Entry {
-            dimension: member.dimension,
-            scalar: member.scalar,
+        self.members.reserve(1)?;
+        let found = FoundMember {
+            position: self.members.len(),
             offset: self.size,
+            member,
         };
-        self.entries.insert(member.name, entry)?;
+        self.found.insert(member.name, found)?;
+        self.members.push(member)?;
         self.size = self.size.saturating_add(member.size());
         Ok(true)
     }
 
     /// The member of a name.
-    #[tactic(auto, using(crate::proofs::MemberTable::found_some, crate::proofs::MemberTable::found_none))]
+    #[tactic(auto, using(crate::proofs::MemberTable::found_in))]
     pub fn named(&self, name: Name) -> Option<FoundMember>
         ensures { result ≡ option_map capped (member_named self.now name) }
     {
-        match self.entries.get_full(&name) {
-            Some((position, name, entry)) => Some(FoundMember {
-                position,
-                offset: entry.offset,
-                member: member_at(name, entry),
-            }),
-            None => None,
-        }
+        self.found.get(&name).copied()
     }
 
     /// The member at a position, counted from 0.
-    #[tactic(auto, using(crate::proofs::MemberTable::member_at))]
     pub fn get(&self, position: usize) -> Option<TypedMember>
         ensures { result ≡ slice_get self.now position }
     {
-        match self.entries.get_index(position) {
-            Some((name, entry)) => Some(member_at(name, entry)),
-            None => None,
-        }
+        self.members.get(position).copied()
     }
 
     /// How many members there are.
     pub fn len(&self) -> usize
         ensures { result ≡ length self.now }
     {
-        self.entries.len()
+        self.members.len()
     }
 
     /// How many bytes the members take together (4,294,967,295 if they take more).
@@ -121,24 +109,12 @@ impl Members {
     }
 }
 
-ghost use Rattle.typed_trees.specs.internal.Members.{member_of};
-
-// The member that an entry of the table is.
-fn member_at(name: &Name, entry: &Entry) -> TypedMember
-    ensures { result ≡ member_of (name.now, entry.now) }
-{
-    TypedMember {
-        name: *name,
-        dimension: entry.dimension,
-        scalar: entry.scalar,
-    }
-}
-
 // Written out, so that these are freed here, and each crate that frees members calls this.
 impl Drop for Members {
     fn drop(self) {
         let Members {
-            entries: _,
+            members: _,
+            found: _,
             size: _,
         } = self;
     }
