@@ -3,13 +3,12 @@
 use crate::globals::{Declarations, add_mains, add_missing, show_declarations};
 use crate::kept_files::{Content, KeptFile, find_kept, kept_bytes};
 use crate::kinds::as_object;
-use crate::object_names::role_in;
+use crate::object_names::{add_externals, add_objects};
 use crate::options::explain_value;
 use crate::page::{Page, Piece};
 use crate::ranges::{add_object, add_ranges};
 use crate::refused::explain_source;
 use crate::told::{Told, told_in};
-use commands::read;
 use std::alloc::Global;
 
 /// What is looked at beside the line of a fault: the words of the command line, the names of tables of lines, and the files
@@ -20,45 +19,6 @@ pub(crate) struct Seen<'s> {
     pub(crate) words: &'s [&'s str],
     pub(crate) tables: &'s [&'s str],
     pub(crate) files: &'s [KeptFile],
-}
-
-// Adds the object files that have a name, and what each has it as.
-fn add_objects<'x>(page: &mut Page, files: &'x [KeptFile], name: &'x str) {
-    for file in files {
-        if let Content::Bytes(bytes) = &file.content
-            && let Some(role) = role_in(bytes.as_slice(), name.as_bytes())
-        {
-            page.line(&[
-                Piece::Shown(file.name.as_slice()),
-                Piece::Text(" has "),
-                Piece::Text(name),
-                Piece::Text(role),
-            ]);
-        }
-    }
-}
-
-// Adds an external name of an object file.
-fn add_external<'x>(page: &mut Page, file: &'x [u8], name: &'x [u8]) {
-    page.line(&[
-        Piece::Shown(file),
-        Piece::Text(" has "),
-        Piece::Shown(name),
-        Piece::Text(" as external"),
-    ]);
-}
-
-// Adds the external names of the object files that were read.
-fn add_externals(page: &mut Page, seen: &Seen) {
-    for file in seen.files {
-        if let Content::Bytes(bytes) = &file.content
-            && let Ok(object) = read(seen.alloc, bytes.as_slice())
-        {
-            for name in object.externals() {
-                add_external(page, file.name.as_slice(), name.as_slice());
-            }
-        }
-    }
 }
 
 // What a fault means: of a file that can't be read, and of one that is no object file, by what is known of the file.
@@ -76,25 +36,13 @@ fn cause_of(seen: &Seen, told: Told) -> &'static str {
 
 // Adds what a fault means, with what is known of the names and places of the program.
 fn explain_program(page: &mut Page, seen: &Seen, told: Told) {
+    let name = told.place.as_bytes();
     match told.number.as_bytes() {
-        [b'J', b'1'..=b'3'] => {
-            let wanted = Declarations {
-                name: told.place.as_bytes(),
-                with_at: false,
-                with_parameters: told.number == "J3",
-            };
-            show_declarations(page, seen, wanted);
-        }
+        [b'J', b'1' | b'2'] => show_declarations(page, seen, name, Declarations::Shared),
+        [b'J', b'3'] => show_declarations(page, seen, name, Declarations::WithParameters),
         [b'J', b'4'] => add_mains(page, seen.alloc, seen.files),
-        [b'J', b'5'] => {
-            let wanted = Declarations {
-                name: told.place.as_bytes(),
-                with_at: true,
-                with_parameters: false,
-            };
-            show_declarations(page, seen, wanted);
-        }
-        [b'L', b'1' | b'2'] => add_objects(page, seen.files, told.place),
+        [b'J', b'5'] => show_declarations(page, seen, name, Declarations::At),
+        [b'L', b'1' | b'2'] => add_objects(page, seen, name),
         [b'P', b'3'] => add_externals(page, seen),
         _ => {}
     }

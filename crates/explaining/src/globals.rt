@@ -9,25 +9,32 @@ use crate::refused::words_of;
 use sources::{Name, read_source};
 use std::alloc::{AllocError, Global};
 use typed_trees::{GlobalItem, Typed, Visibility};
-use words::{Kind, Mark, ReservedWord};
+use words::{Kind, Mark, ReservedWord, Word};
 
-/// Which declarations are shown: those of a name that have PUBLIC or EXTERNAL, and of a procedure those of its parameters too;
-/// or those that have AT.
+/// Which declarations of a name are shown.
 #[derive(Clone, Copy)]
-pub(crate) struct Declarations<'n> {
-    pub(crate) name: &'n [u8],
-    pub(crate) with_at: bool,
-    pub(crate) with_parameters: bool,
+pub(crate) enum Declarations {
+    /// Those that have PUBLIC or EXTERNAL.
+    Shared,
+    /// Those that have PUBLIC or EXTERNAL, and of a procedure those of its parameters too.
+    WithParameters,
+    /// Those that have AT.
+    At,
 }
 
-impl Declarations<'_> {
+impl Declarations {
     // Whether a declaration with this word is shown.
-    fn is_of(self, word: ReservedWord) -> bool {
+    fn has(self, word: ReservedWord) -> bool {
         match word {
-            ReservedWord::Public | ReservedWord::External => !self.with_at,
-            ReservedWord::At => self.with_at,
+            ReservedWord::Public | ReservedWord::External => !matches!(self, Declarations::At),
+            ReservedWord::At => matches!(self, Declarations::At),
             _ => false,
         }
+    }
+
+    // Whether the declarations of parameters are shown.
+    fn has_parameters(self) -> bool {
+        matches!(self, Declarations::WithParameters)
     }
 }
 
@@ -139,45 +146,77 @@ pub(crate) fn add_mains<'x>(page: &mut Page, alloc: Global, files: &'x [KeptFile
     }
 }
 
-// Shows the lines of a source that declare a name with a word that is wanted: of each statement that has one, the line on
-// which the name stands first; and of a procedure the line of a DECLARE directly after its heading, if wanted.
-fn show_in(page: &mut Page, seen: &Seen, file: &KeptFile, text: &[u8], wanted: Declarations) {
-    let name = wanted.name;
+// What was seen of a statement: the line on which the name stands first that is looked for, whether a word of it is wanted,
+// and whether it is the heading of a procedure.
+#[derive(Clone, Copy)]
+struct Statement {
+    line: Option<u32>,
+    is_wanted: bool,
+    is_procedure: bool,
+}
+
+impl Statement {
+    // A statement of which no word was seen.
+    fn new() -> Statement {
+        Statement {
+            line: None,
+            is_wanted: false,
+            is_procedure: false,
+        }
+    }
+
+    // Takes in a word of the statement.
+    fn add(&mut self, word: Word, name: &[u8], wanted: Declarations) {
+        if self.line.is_none() && is_same_name(word.text, name) {
+            self.line = Some(word.line);
+        }
+        if let Kind::Reserved(reserved) = word.kind {
+            self.is_wanted = self.is_wanted || wanted.has(reserved);
+            self.is_procedure = self.is_procedure || reserved == ReservedWord::Procedure;
+        }
+    }
+
+    // The line to show of the statement, if it is one that is wanted.
+    fn shown_line(self) -> Option<u32> {
+        if self.is_wanted { self.line } else { None }
+    }
+}
+
+// Shows the lines of a source that declare a name: of each statement that is wanted the line on which the name stands first,
+// and of a procedure the line of a DECLARE directly after its heading, if wanted.
+fn show_in(
+    page: &mut Page,
+    seen: &Seen,
+    file: &KeptFile,
+    text: &[u8],
+    name: &[u8],
+    wanted: Declarations,
+) {
     let (_plain, words) = words_of(page, seen.alloc, text);
-    let mut line = None;
-    let mut is_wanted = false;
-    let mut is_procedure = false;
+    let mut statement = Statement::new();
     let mut is_headed = false;
     for word in &words {
         if is_headed && word.kind == Kind::Reserved(ReservedWord::Declare) {
             show_line_of(page, file.name.as_slice(), text, word.line);
         }
         is_headed = false;
-        if line.is_none() && is_same_name(word.text, name) {
-            line = Some(word.line);
-        }
-        match word.kind {
-            Kind::Reserved(ReservedWord::Procedure) => is_procedure = true,
-            Kind::Reserved(reserved) => is_wanted = is_wanted || wanted.is_of(reserved),
-            Kind::Mark(Mark::Semicolon) => {
-                if is_wanted && let Some(line) = line {
-                    show_line_of(page, file.name.as_slice(), text, line);
-                    is_headed = is_procedure && wanted.with_parameters;
-                }
-                line = None;
-                is_wanted = false;
-                is_procedure = false;
+        if word.kind == Kind::Mark(Mark::Semicolon) {
+            if let Some(line) = statement.shown_line() {
+                show_line_of(page, file.name.as_slice(), text, line);
+                is_headed = statement.is_procedure && wanted.has_parameters();
             }
-            _ => {}
+            statement = Statement::new();
+        } else {
+            statement.add(*word, name, wanted);
         }
     }
 }
 
 /// Shows the lines of the sources that declare a name as it is wanted.
-pub(crate) fn show_declarations(page: &mut Page, seen: &Seen, wanted: Declarations) {
+pub(crate) fn show_declarations(page: &mut Page, seen: &Seen, name: &[u8], wanted: Declarations) {
     for file in seen.files {
         if let Content::Bytes(text) = &file.content {
-            show_in(page, seen, file, text.as_slice(), wanted);
+            show_in(page, seen, file, text.as_slice(), name, wanted);
         }
     }
 }

@@ -1,51 +1,75 @@
-//! The names of an object file, as its records have them.
+//! The names of the object files that were read.
 
-// What the names of a record of this kind are, where it has names.
-fn role_of(kind: u8) -> Option<&'static str> {
-    match kind {
-        0x16 => Some(" as public"),
-        0x18 => Some(" as external"),
-        _ => None,
-    }
+use crate::explanation::Seen;
+use crate::kept_files::Content;
+use crate::page::{Page, Piece};
+use commands::{ObjectModule, read};
+
+// What an object file has a name as.
+#[derive(Clone, Copy)]
+enum Role {
+    Public,
+    External,
 }
 
-// The kind and the content of the record that begins at a place.
-fn record_at(bytes: &[u8], at: usize) -> Option<(u8, &[u8])> {
-    match bytes.get(at..) {
-        Some([kind, low, high, rest @ ..]) => {
-            let pages = usize::from(*high).saturating_mul(256);
-            let length = pages.saturating_add(usize::from(*low));
-            Some((*kind, rest.get(..length).unwrap_or(rest)))
-        }
-        _ => None,
-    }
-}
-
-// Whether the content of a record has a name, which comes after the byte of its length.
-fn has_name(content: &[u8], name: &[u8]) -> bool {
-    for (at, count) in content.iter().enumerate() {
-        let text = content.get(at.saturating_add(1)..).unwrap_or(&[]);
-        if usize::from(*count) == name.len() && text.starts_with(name) {
-            return true;
+impl Role {
+    // The word for it.
+    fn word(self) -> &'static str {
+        match self {
+            Role::Public => "public",
+            Role::External => "external",
         }
     }
-    false
 }
 
-/// What an object file has a name as, with a space before it: as public or as external; none where it has no such name.
-pub(crate) fn role_in(bytes: &[u8], name: &[u8]) -> Option<&'static str> {
-    let mut next = 0;
-    for (at, _) in bytes.iter().enumerate() {
-        if at == next
-            && let Some((kind, content)) = record_at(bytes, at)
+// What an object has a name as; none where it has no such name.
+fn role_in(object: &ObjectModule, name: &[u8]) -> Option<Role> {
+    if object.publics().iter().any(|it| it.name.as_slice() == name) {
+        Some(Role::Public)
+    } else if object.externals().iter().any(|it| it.as_slice() == name) {
+        Some(Role::External)
+    } else {
+        None
+    }
+}
+
+// Adds what an object file has a name as.
+fn add_name<'x>(page: &mut Page, file: &'x [u8], name: &'x [u8], role: Role) {
+    page.line(&[
+        Piece::Shown(file),
+        Piece::Text(" has "),
+        Piece::Shown(name),
+        Piece::Text(" as "),
+        Piece::Text(role.word()),
+    ]);
+}
+
+/// Adds the object files that have a name, and what each has it as.
+pub(crate) fn add_objects(page: &mut Page, seen: &Seen, name: &[u8]) {
+    for file in seen.files {
+        if let Content::Bytes(bytes) = &file.content
+            && let Ok(object) = read(seen.alloc, bytes.as_slice())
+            && let Some(role) = role_in(&object, name)
         {
-            if let Some(role) = role_of(kind)
-                && has_name(content, name)
-            {
-                return Some(role);
-            }
-            next = at.saturating_add(3).saturating_add(content.len());
+            add_name(page, file.name.as_slice(), name, role);
         }
     }
-    None
+}
+
+// Adds the external names of an object.
+fn add_externals_of(page: &mut Page, file: &[u8], object: &ObjectModule) {
+    for name in object.externals() {
+        add_name(page, file, name.as_slice(), Role::External);
+    }
+}
+
+/// Adds the external names of the object files that were read.
+pub(crate) fn add_externals(page: &mut Page, seen: &Seen) {
+    for file in seen.files {
+        if let Content::Bytes(bytes) = &file.content
+            && let Ok(object) = read(seen.alloc, bytes.as_slice())
+        {
+            add_externals_of(page, file.name.as_slice(), &object);
+        }
+    }
 }
