@@ -183,7 +183,7 @@ impl Statement {
 }
 
 // Shows the lines of a source that declare a name: of each statement that is wanted the line on which the name stands first,
-// and of a procedure the line of a DECLARE directly after its heading, if wanted.
+// and of a procedure, if wanted, the line of a DECLARE directly after its heading, where it is another line.
 fn show_in(
     page: &mut Page,
     seen: &Seen,
@@ -194,16 +194,21 @@ fn show_in(
 ) {
     let (_plain, words) = words_of(page, seen.alloc, text);
     let mut statement = Statement::new();
-    let mut is_headed = false;
+    let mut heading = None;
     for word in &words {
-        if is_headed && word.kind == Kind::Reserved(ReservedWord::Declare) {
+        if let Some(line) = heading
+            && line != word.line
+            && word.kind == Kind::Reserved(ReservedWord::Declare)
+        {
             show_line_of(page, file.name.as_slice(), text, word.line);
         }
-        is_headed = false;
+        heading = None;
         if word.kind == Kind::Mark(Mark::Semicolon) {
             if let Some(line) = statement.shown_line() {
                 show_line_of(page, file.name.as_slice(), text, line);
-                is_headed = statement.is_procedure && wanted.has_parameters();
+                if statement.is_procedure && wanted.has_parameters() {
+                    heading = Some(line);
+                }
             }
             statement = Statement::new();
         } else {
