@@ -1,7 +1,8 @@
 -- Sources that were converted, or not.
-use Rattle.commands.proofs.{Prelude.{◌≡◌, ◌<◌, ◌≤◌, ℕ, List, [], length, map, Option, None, Some, inl, inr, refl, sym, ap, subst, ◌∙◌, ◌⊎◌, arith, Ending, Done, Refused, status_of, AppendsBeginning, Appends, Keeps, ChangesFiles, Directory, HasFile, KeepsFiles, stays_on, Tells, memory_line, refusal_line, file_line, CountsFailure, TellsUnwritten, ConvertWanted, LONGEST_SOURCE, Lexeme, lexemes_of, one_reading, Expands, not_both, TypedModule, HasReadCause, IsSourceOf, ReadFault, Expansion, Storage, Syntax, TooLong, Typing, Words, advice_view, usual_advice, Parts, as_it_is, assembled, IsRefused, no_expansion, no_words, Change, plain, line_table, prepared, prepared_notes, rule_view, table_of_rules, IsConverted, note_lines, place_at, Advice, PlacedNote, Entry, Rule, IsIncluded, StopsLookingForNext, Converts, ConvertsByTables, HasNoConversion, IsMistyped, IsModule, IsNoModule, IsPutTogether, StopsIncluding, StopsSource, changed, fault_line_at, medium_of, rewritten, BeginsTable, WritesTable, IsOfForm, PrintsModule, form_of_fault, table_if, ConvertsFile, ConvertsText, RefusesText, ConvertsHeld, ConvertsParts, PrintsNoted, PrintsTabled, unchanged, with_file, StopsWriting}, Printed.{stays_written}, Included.{was_included, was_stopped_for_next}, Tables.{kept_begins, table_begun, table_stopped, table_written, was_begun, was_stopped_writing, was_written}}
-use Rattle.sources.specs.Faults.{line_of, number_of}
-use Rattle.commands.specs.internal.Converting.{PrintsConverted}
+use Rattle.commands.proofs.{Prelude.{◌≡◌, ◌<◌, ◌≤◌, ◌++◌, ◌∷◌, ℕ, List, [], length, length-append, codes, decimal, map, Option, None, Some, inl, inr, refl, sym, ap, subst, ◌∙◌, ◌⊎◌, arith, Ending, Done, Refused, status_of, AppendsBeginning, Appends, ChangesFiles, Directory, HasFile, KeepsFiles, stays_on, Tells, memory_line, file_line, CountsFailure, TellsUnwritten, ConvertWanted, LONGEST_SOURCE, Lexeme, lexemes_of, one_reading, Expands, not_both, TypedModule, HasReadCause, IsSourceOf, ReadFault, Expansion, Storage, Syntax, TooLong, Typing, Words, advice_view, usual_advice, Parts, as_it_is, assembled, IsRefused, no_expansion, no_words, plain, line_table, prepared, prepared_notes, rule_view, table_of_rules, note_lines, Advice, PlacedNote, Entry, Rule, IsIncluded, Converts, ConvertsByTables, HasNoConversion, IsMistyped, IsModule, IsNoModule, IsPutTogether, StopsSource, changed, medium_of, rewritten, BeginsTable, WritesTable, ComesOf, IsConvertedTo, IsMadeOf, IsOfForm, IsRefusedAs, RefusesParts, UnlessFault, form_of_fault, told_line, ConvertsFile, ConvertsText, RefusesText, ConvertsHeld, PrintsTold, PrintsTabled, unchanged, with_file, StopsWriting, Conversion, Refusal, Result, Ok, Err, IfOk, IfFault, Failure, Fault, Memory}, Printed.{stays_written}, Included.{was_included, was_stopped_for_next}, Tables.{table_begun, table_stopped, table_written, was_begun, was_stopped_writing, was_written}}
+use Rattle.mem80.proofs.Results.{if_ok_then}
+use Rattle.convert.specs.Includes.{name_of_file}
+use Rattle.convert.specs.Sources.{note_line}
 use Rattle.commands.specs.Converting.{stays}
 use Rattle.literally.specs.declared.fault.Fault as expansion_fault
 
@@ -33,250 +34,228 @@ module _ (text : List ℕ) where
   mistyped_is_converted (Typing fault) short mistyped cause = cause
   mistyped_is_converted (Storage fault) short mistyped cause = cause
 
--- a text was printed, or a beginning of it
-module _ (name : List ℕ) (entries : List Entry) (text : List ℕ) (notes : List PlacedNote) (old new out now : Option (List ℕ)) where
-  pub noted_unwritten : (status : ℕ) → status ≡ 1 → TellsUnwritten old new → AppendsBeginning out now text → PrintsNoted name entries text notes status old new out now
-  unfolding PrintsNoted
-  noted_unwritten status one told begun = inr (inr (one, told, begun))
+-- what a failure keeps
+if_fault_then : {A F : Type 0} (result : Result A (Failure F)) (P Q : F → Type 0) → ((fault : F) → P fault → Q fault) → IfFault result P → IfFault result Q
+if_fault_then (Ok value) P Q more is = is
+if_fault_then (Err (Fault fault)) P Q more is = more fault is
+if_fault_then (Err Memory) P Q more is = is
 
-  pub noted_written : (ending : Ending) (lines : List ℕ) → (ending ≡ Done) ⊎ (ending ≡ Refused) → (ending ≡ Done → notes ≡ []) → (ending ≡ Refused → 0 < length notes)
-      → (ending ≡ Refused → AppendsBeginning old new lines) → lines ≡ note_lines name entries notes → Appends out now text
-      → PrintsNoted name entries text notes (status_of ending) old new out now
-  unfolding PrintsNoted
-  noted_written ending lines (inl done) none some tells is appended = inl (ap status_of done, none done, appended)
-  noted_written ending lines (inr refused) none some tells is appended =
-      inr (inl (ap status_of refused, some refused, appended, subst (λ (l : List ℕ). AppendsBeginning old new l) is (tells refused)))
+pub unless_fault : {A F : Type 0} (result : Result A (Failure F)) (P : Type 0) → P → UnlessFault result P
+unless_fault (Ok value) P holds = holds
+unless_fault (Err (Fault fault)) P holds = tt
+unless_fault (Err Memory) P holds = holds
 
--- a text was printed after its table was written that is wanted, or not
-module _ (wanted : ConvertWanted) (entries : List Entry) (text : List ℕ) (notes : List PlacedNote) (table : List ℕ) (files later : Option Directory) (before after : ℕ) (old new out now : Option (List ℕ)) where
-  pub tabled_without : (status : ℕ) → wanted.lines ≡ None → PrintsNoted wanted.file entries text notes status old new out now
-      → PrintsTabled wanted entries text notes table files files status before before old new out now
+-- the text of a conversion was printed, or a beginning of it
+module _ (made : Conversion) (old new out now : Option (List ℕ)) where
+  pub told_unwritten : (status : ℕ) → status ≡ 1 → TellsUnwritten old new → AppendsBeginning out now made.text.items → PrintsTold made status old new out now
+  unfolding PrintsTold
+  told_unwritten status one told begun = inr (inr (one, told, begun))
+
+  pub told_written : (ending : Ending) → (ending ≡ Done) ⊎ (ending ≡ Refused) → (ending ≡ Done → made.told.items ≡ []) → (ending ≡ Refused → 0 < length made.told.items)
+      → (ending ≡ Refused → AppendsBeginning old new made.told.items) → Appends out now made.text.items → PrintsTold made (status_of ending) old new out now
+  unfolding PrintsTold
+  told_written ending (inl done) none some tells appended = inl (ap status_of done, none done, appended)
+  told_written ending (inr refused) none some tells appended = inr (inl (ap status_of refused, some refused, appended, tells refused))
+
+-- it was printed after its table was written that is wanted, or not
+module _ (wanted : ConvertWanted) (made : Conversion) (files later : Option Directory) (before after : ℕ) (old new out now : Option (List ℕ)) where
+  pub tabled_without : (status : ℕ) → wanted.lines ≡ None → PrintsTold made status old new out now → PrintsTabled wanted made files files status before before old new out now
   unfolding PrintsTabled
   tabled_without status none printed = inl (refl, rw none (unchanged files), printed)
 
-  pub tabled_written : (status : ℕ) (name : List ℕ) → wanted.lines ≡ Some name → after ≡ before → ChangesFiles files later (with_file name table)
-      → PrintsNoted wanted.file entries text notes status old new out now → PrintsTabled wanted entries text notes table files later status before after old new out now
+  pub tabled_written : (status : ℕ) (name : List ℕ) → wanted.lines ≡ Some name → after ≡ before → ChangesFiles files later (with_file name made.table.items)
+      → PrintsTold made status old new out now → PrintsTabled wanted made files later status before after old new out now
   unfolding PrintsTabled
-  tabled_written status name is same written printed = inl (same, subst (λ (o : Option (List ℕ)). WritesTable o files later table) (sym is) written, printed)
+  tabled_written status name is same written printed =
+      inl (same, subst (λ (o : Option (List ℕ)). WritesTable o files later made.table.items) (sym is) written, printed)
 
-  pub tabled_stopped : (status : ℕ) (name : List ℕ) → wanted.lines ≡ Some name → status ≡ 1 → CountsFailure before after → StopsWriting files later name table → Tells (file_line name) old new
-      → PrintsTabled wanted entries text notes table files later status before after old new out out
+  pub tabled_stopped : (status : ℕ) (name : List ℕ) → wanted.lines ≡ Some name → status ≡ 1 → CountsFailure before after → StopsWriting files later name made.table.items
+      → Tells (file_line name) old new → PrintsTabled wanted made files later status before after old new out out
   unfolding PrintsTabled
   tabled_stopped status name is one counted stopped told =
       inr (inl (one, stays_written out, record { counted = counted; name = name; stopped = (is, stopped); told = told }))
 
-  pub tabled_unwritten : (status : ℕ) (name : List ℕ) → wanted.lines ≡ Some name → status ≡ 1 → after ≡ before → StopsWriting files later name table → Tells memory_line old new
-      → PrintsTabled wanted entries text notes table files later status before after old new out out
+  pub tabled_unwritten : (status : ℕ) (name : List ℕ) → wanted.lines ≡ Some name → status ≡ 1 → after ≡ before → StopsWriting files later name made.table.items
+      → Tells memory_line old new → PrintsTabled wanted made files later status before after old new out out
   unfolding PrintsTabled
   tabled_unwritten status name is one same stopped told = inr (inr (
     one,
     same,
-    subst (λ (o : Option (List ℕ)). BeginsTable o files later table) (sym is) stopped,
+    subst (λ (o : Option (List ℕ)). BeginsTable o files later made.table.items) (sym is) stopped,
     told,
     stays_written out,
   ))
 
-  pub tabled_unheld : (status : ℕ) → status ≡ 1 → Tells memory_line old new → PrintsTabled wanted entries text notes table files files status before before old new out out
-  unfolding PrintsTabled
-  tabled_unheld status one told = inr (inr (one, refl, kept_begins wanted.lines files files table (unchanged files), told, stays_written out))
-
-  -- with the table that is wanted, or none
-  pub tabled_as_wanted : (status : ℕ) (some : List ℕ) → some ≡ table_if wanted.lines table → PrintsTabled wanted entries text notes some files later status before after old new out now
-      → PrintsTabled wanted entries text notes table files later status before after old new out now
-  unfolding PrintsTabled
-  tabled_as_wanted status some is (inl (same, written, printed)) = inl (same, table_written wanted.lines files later table some is written, printed)
-  tabled_as_wanted status some is (inr (inl (one, nothing, told))) = inr (inl (
-    one,
-    nothing,
-    record {
-      counted = told.counted;
-      name = told.name;
-      stopped = (told.stopped.0, table_stopped wanted.lines told.name files later table some is told.stopped.0 told.stopped.1);
-      told = told.told;
-    },
-  ))
-  tabled_as_wanted status some is (inr (inr (one, same, begun, told, nothing))) =
-      inr (inr (one, same, table_begun wanted.lines files later table some is begun, told, nothing))
-
--- what was put together is a text as it is
-pub module_as_it_is : (wanted : ConvertWanted) (notes : List PlacedNote) (text : List ℕ) (parts : Parts)
-    (files later : Option Directory) (status before after : ℕ) (old new out now : Option (List ℕ))
-    → parts ≡ as_it_is notes text
-    → PrintsConverted wanted [] parts [] text notes files later status before after old new out now
-    → PrintsModule wanted notes text files later status before after old new out now
-module_as_it_is wanted notes text parts files later status before after old new out now same printed =
-    subst
-    (λ (p : Parts). PrintsConverted wanted [] p [] text notes files later status before after old new out now)
-    same printed
-
--- what was put together was converted and printed, or not
-module _ (wanted : ConvertWanted) (entries : List Entry) (rules : List Rule) (parts : Parts) (files later : Option Directory) (before after : ℕ) (old new out now : Option (List ℕ)) where
-  pub parts_printed : (status : ℕ) (changes : List Change) (text : List ℕ) (notes : List PlacedNote) → IsConverted rules parts changes text notes
-      → PrintsTabled wanted entries text notes (line_table wanted.file entries parts changes text) files later status before after old new out now
-      → ConvertsParts wanted entries rules parts files later status before after old new out now
-  unfolding ConvertsParts
-  parts_printed status changes text notes converted printed = inl (record { changes = changes; text = text; notes = notes; converted = converted; printed = printed })
-
-  pub parts_unheld : (status : ℕ) → status ≡ 1 → Tells memory_line old new → ConvertsParts wanted entries rules parts files files status before before old new out out
-  unfolding ConvertsParts
-  parts_unheld status one told = inr (one, refl, unchanged files, stays_written out, inl told)
-
-  pub parts_refused : (status : ℕ) (fault : ReadFault) → status ≡ 1 → HasNoConversion parts.text fault
-      → Tells (fault_line_at wanted.file entries (place_at parts.places (line_of fault)) fault) old new
-      → ConvertsParts wanted entries rules parts files files status before before old new out out
-  unfolding ConvertsParts
-  parts_refused status fault one cause told = inr (one, refl, unchanged files, stays_written out, inr (record { fault = fault; cause = cause; told = told }))
-
 -- what is printed with files is printed with them as they were
-module _ (was files later : Option Directory) (kept : KeepsFiles was files) (wanted : ConvertWanted) (entries : List Entry) (before middle after : ℕ) (uncounted : middle ≡ before) (old new out now : Option (List ℕ)) where
-  was_tabled : (status : ℕ) (text : List ℕ) (notes : List PlacedNote) (table : List ℕ) → PrintsTabled wanted entries text notes table files later status middle after old new out now
-      → PrintsTabled wanted entries text notes table was later status before after old new out now
-  unfolding PrintsTabled
-  was_tabled status text notes table (inl (same, written, printed)) = inl (same ∙ uncounted, was_written wanted.lines was files later table kept written, printed)
-  was_tabled status text notes table (inr (inl (one, nothing, told))) = inr (inl (
-    one,
-    nothing,
-    record {
-      counted = subst (λ (n : ℕ). CountsFailure n after) uncounted told.counted;
-      name = told.name;
-      stopped = (told.stopped.0, was_stopped_writing was files later told.name table kept told.stopped.1);
-      told = told.told;
-    },
-  ))
-  was_tabled status text notes table (inr (inr (one, same, begun, told, nothing))) =
-      inr (inr (one, same ∙ uncounted, was_begun wanted.lines was files later table kept begun, told, nothing))
+pub was_tabled : (was files later : Option Directory) → KeepsFiles was files → (wanted : ConvertWanted) (made : Conversion) (before middle after : ℕ) → middle ≡ before → (status : ℕ) (old new out now : Option (List ℕ))
+    → PrintsTabled wanted made files later status middle after old new out now → PrintsTabled wanted made was later status before after old new out now
+unfolding PrintsTabled
+was_tabled was files later kept wanted made before middle after uncounted status old new out now (inl (same, written, printed)) =
+    inl (same ∙ uncounted, was_written wanted.lines was files later made.table.items kept written, printed)
+was_tabled was files later kept wanted made before middle after uncounted status old new out now (inr (inl (one, nothing, told))) = inr (inl (
+  one,
+  nothing,
+  record {
+    counted = subst (λ (n : ℕ). CountsFailure n after) uncounted told.counted;
+    name = told.name;
+    stopped = (told.stopped.0, was_stopped_writing was files later told.name made.table.items kept told.stopped.1);
+    told = told.told;
+  },
+))
+was_tabled was files later kept wanted made before middle after uncounted status old new out now (inr (inr (one, same, begun, told, nothing))) =
+    inr (inr (one, same ∙ uncounted, was_begun wanted.lines was files later made.table.items kept begun, told, nothing))
 
-  pub parts_before : (status : ℕ) (rules : List Rule) (parts : Parts) → ConvertsParts wanted entries rules parts files later status middle after old new out now
-      → ConvertsParts wanted entries rules parts was later status before after old new out now
-  unfolding ConvertsParts
-  parts_before status rules parts (inl done) = inl (record {
-    changes = done.changes;
-    text = done.text;
-    notes = done.notes;
-    converted = done.converted;
-    printed = was_tabled status done.text done.notes (line_table wanted.file entries parts done.changes done.text) done.printed;
-  })
-  parts_before status rules parts (inr (one, same, stay, nothing, told)) = inr (one, same ∙ uncounted, stays_on was files later kept stay, nothing, told)
+-- each note has a line
+module _ (name : List ℕ) (entries : List Entry) where
+  some_line : (note : PlacedNote) → 0 < length (note_line name entries note)
+  some_line note = omega (arith, length-append (name_of_file name entries note.place.file) (32 ∷ (decimal note.place.line ++ (codes ": " ++ (note.text.now ++ 10 ∷ [])))))
+
+  no_notes : (notes : List PlacedNote) → note_lines name entries notes ≡ [] → notes ≡ []
+  no_notes [] none = refl
+  no_notes (note ∷ others) none = absurd (omega (arith, some_line note, ap (λ (l : List ℕ). length l) none, length-append (note_line name entries note) (note_lines name entries others)))
+
+  some_notes : (notes : List PlacedNote) → 0 < length (note_lines name entries notes) → 0 < length notes
+  some_notes [] some = some
+  some_notes (note ∷ others) some = omega arith
+
+-- what a source is converted to, by what it is
+module _ (rules : List Rule) (advice : Advice) (wanted : ConvertWanted) (files : Option Directory) (before : List PlacedNote) (text : List ℕ) (made : Conversion) where
+  pub module_converted : IsModule text → IsMadeOf wanted [] (as_it_is before text) [] text before made → IsConvertedTo rules advice wanted files before text made
+  module_converted is made_of = record {
+    entries = [];
+    notes = before;
+    table = line_table wanted.file [] (as_it_is before text) [] text;
+    converts = subst (λ (t : List ℕ). Converts rules advice wanted files before text [] t before (line_table wanted.file [] (as_it_is before text) [] text)) (sym made_of.text_is) (stays is);
+    told_is = made_of.told_is;
+    table_is = made_of.table_is;
+  }
+
+  pub mistyped_converted : IsMistyped text → ComesOf wanted [] (as_it_is before text) rules made → IsConvertedTo rules advice wanted files before text made
+  mistyped_converted is comes = record {
+    entries = [];
+    notes = comes.notes;
+    table = line_table wanted.file [] (as_it_is before text) comes.changes comes.text;
+    converts = subst (λ (t : List ℕ). Converts rules advice wanted files before text [] t comes.notes (line_table wanted.file [] (as_it_is before text) comes.changes comes.text)) (sym comes.made_of.text_is)
+        (rewritten is comes.converted);
+    told_is = comes.made_of.told_is;
+    table_is = comes.made_of.table_is;
+  }
+
+  pub old_converted : (entries : List Entry) (parts : Parts) → IsPutTogether advice wanted files before text entries parts → ComesOf wanted entries parts rules made
+      → IsConvertedTo rules advice wanted files before text made
+  old_converted entries parts put comes = record {
+    entries = entries;
+    notes = comes.notes;
+    table = line_table wanted.file entries parts comes.changes comes.text;
+    converts = subst (λ (t : List ℕ). Converts rules advice wanted files before text entries t comes.notes (line_table wanted.file entries parts comes.changes comes.text)) (sym comes.made_of.text_is)
+        (changed put comes.converted);
+    told_is = comes.made_of.told_is;
+    table_is = comes.made_of.table_is;
+  }
+
+-- the same of answers that may be failures
+module _ (rules : List Rule) (advice : Advice) (wanted : ConvertWanted) (files : Option Directory) (notes : List PlacedNote) (text : List ℕ) (result : Result Conversion (Failure Refusal)) where
+  pub if_mistyped_converted : IsMistyped text → IfOk result (ComesOf wanted [] (as_it_is notes text) rules) → IfOk result (IsConvertedTo rules advice wanted files notes text)
+  if_mistyped_converted is = if_ok_then _ _ result (λ made. mistyped_converted rules advice wanted files notes text made is)
+
+  pub if_old_converted : (entries : List Entry) (parts : Parts) → IsPutTogether advice wanted files notes text entries parts → IfOk result (ComesOf wanted entries parts rules)
+      → IfOk result (IsConvertedTo rules advice wanted files notes text)
+  if_old_converted entries parts put = if_ok_then _ _ result (λ made. old_converted rules advice wanted files notes text made entries parts put)
+
+-- the words of a module with a fault of names or of types are not refused
+pub if_mistyped_refused : (wanted : ConvertWanted) (notes : List PlacedNote) (text : List ℕ) (result : Result Conversion (Failure Refusal)) (Q : Refusal → Type 0) → length text ≤ LONGEST_SOURCE → IsMistyped text
+    → IfFault result (RefusesParts wanted [] (as_it_is notes text)) → IfFault result Q
+if_mistyped_refused wanted notes text result Q short is =
+    if_fault_then result _ Q (λ refusal refuses. absurd (mistyped_is_converted text refuses.fault short is refuses.cause))
+
+pub if_old_refused : (advice : Advice) (wanted : ConvertWanted) (files : Option Directory) (notes : List PlacedNote) (text : List ℕ) (result : Result Conversion (Failure Refusal)) (entries : List Entry) (parts : Parts) (before after : ℕ)
+    → IsPutTogether advice wanted files notes text entries parts → after ≡ before → IfFault result (RefusesParts wanted entries parts)
+    → IfFault result (IsRefusedAs advice wanted files notes text before after)
+if_old_refused advice wanted files notes text result entries parts before after put same =
+    if_fault_then result _ _ (λ refusal refuses. inr (same, inr (record { entries = entries; parts = parts; together = put; refuses = refuses })))
 
 -- what converting a text prints, tells and writes, or a file that it includes or that of its table stops it
 module _ (rules : List Rule) (advice : Advice) (wanted : ConvertWanted) (files later : Option Directory) (notes : List PlacedNote) (text : List ℕ) (before after : ℕ) (old new out now : Option (List ℕ)) where
-  text_printed : (status : ℕ) (entries : List Entry) (printed : List ℕ) (told : List PlacedNote) (table : List ℕ)
-      → Converts rules advice wanted files notes text entries printed told table → WritesTable wanted.lines files later table
-      → PrintsNoted wanted.file entries printed told status old new out now → ConvertsText rules advice wanted files notes text later status old new out now
-  unfolding ConvertsText RefusesText PrintsNoted
-  text_printed status entries printed told table converts written (inl (zero, none, appended)) = inl (
+  text_printed : (status : ℕ) (made : Conversion) (is : IsConvertedTo rules advice wanted files notes text made) → WritesTable wanted.lines files later is.table
+      → PrintsTold made status old new out now → ConvertsText rules advice wanted files notes text later status old new out now
+  unfolding ConvertsText RefusesText PrintsTold
+  text_printed status made is written (inl (zero, none, appended)) = inl (
     zero,
     record {
-      entries = entries;
-      printed = printed;
-      table = table;
-      converts = subst (λ (l : List PlacedNote). Converts rules advice wanted files notes text entries printed l table) none converts;
+      entries = is.entries;
+      printed = made.text.items;
+      table = is.table;
+      converts = subst (λ (l : List PlacedNote). Converts rules advice wanted files notes text is.entries made.text.items l is.table)
+          (no_notes wanted.file is.entries is.notes (sym is.told_is ∙ none)) is.converts;
       appended = appended;
       tabled = written;
     },
   )
-  text_printed status entries printed told table converts written (inr (inl (one, some, appended, telling))) = inr (
+  text_printed status made is written (inr (inl (one, some, appended, telling))) = inr (
     one,
     inr (inl (record {
-      entries = entries;
-      printed = printed;
-      notes = told;
-      table = table;
-      some = some;
-      converts = converts;
+      entries = is.entries;
+      printed = made.text.items;
+      notes = is.notes;
+      table = is.table;
+      some = some_notes wanted.file is.entries is.notes (subst (λ (l : List ℕ). 0 < length l) is.told_is some);
+      converts = is.converts;
       appended = appended;
       tabled = written;
-      told = telling;
+      told = subst (λ (l : List ℕ). AppendsBeginning old new l) is.told_is telling;
     })),
   )
-  text_printed status entries printed told table converts written (inr (inr (one, telling, begun))) = inr (
+  text_printed status made is written (inr (inr (one, telling, begun))) = inr (
     one,
     inr (inr (inl (record {
-      entries = entries;
-      printed = printed;
-      notes = told;
-      table = table;
-      converts = converts;
+      entries = is.entries;
+      printed = made.text.items;
+      notes = is.notes;
+      table = is.table;
+      converts = is.converts;
       tabled = written;
       told = telling;
       begun = begun;
     }))),
   )
 
-  held_printed : (status : ℕ) (entries : List Entry) (printed : List ℕ) (told : List PlacedNote) (table : List ℕ)
-      → Converts rules advice wanted files notes text entries printed told table
-      → PrintsTabled wanted entries printed told table files later status before after old new out now
+  pub held_printed : (status : ℕ) (made : Conversion) → IsConvertedTo rules advice wanted files notes text made → PrintsTabled wanted made files later status before after old new out now
       → ConvertsHeld rules advice wanted files notes text later status before after old new out now
   unfolding ConvertsHeld ConvertsText RefusesText PrintsTabled
-  held_printed status entries printed told table converts (inl (same, written, noted)) =
-      inr (same, text_printed status entries printed told table converts written noted)
-  held_printed status entries printed told table converts (inr (inl (one, nothing, telling))) = inl (
+  held_printed status made is (inl (same, written, printed)) =
+      inr (same, text_printed status made is (table_written wanted.lines files later is.table made.table.items is.table_is written) printed)
+  held_printed status made is (inr (inl (one, nothing, telling))) = inl (
     one,
     nothing,
     record {
       counted = telling.counted;
       name = telling.name;
       stopped = inr (record {
-        entries = entries;
-        printed = printed;
-        notes = told;
-        table = table;
-        converts = converts;
+        entries = is.entries;
+        printed = made.text.items;
+        notes = is.notes;
+        table = is.table;
+        converts = is.converts;
         wanted_is = telling.stopped.0;
-        begun = telling.stopped.1;
+        begun = table_stopped wanted.lines telling.name files later is.table made.table.items is.table_is telling.stopped.0 telling.stopped.1;
       });
       told = telling.told;
     },
   )
-  held_printed status entries printed told table converts (inr (inr (one, same, begun, telling, nothing))) = inr (
+  held_printed status made is (inr (inr (one, same, begun, telling, nothing))) = inr (
     same,
     inr (
       one,
       inr (inr (inr (record {
-        entries = entries;
-        printed = printed;
-        notes = told;
-        table = table;
-        converts = converts;
-        tabled = begun;
+        entries = is.entries;
+        printed = made.text.items;
+        notes = is.notes;
+        table = is.table;
+        converts = is.converts;
+        tabled = table_begun wanted.lines files later is.table made.table.items is.table_is begun;
         told = telling;
         nothing = nothing;
       }))),
-    ),
-  )
-
-  pub module_printed : (status : ℕ) → IsModule text → PrintsModule wanted notes text files later status before after old new out now
-      → ConvertsHeld rules advice wanted files notes text later status before after old new out now
-  module_printed status is printed = held_printed status [] text notes (line_table wanted.file [] (as_it_is notes text) [] text) (stays is) printed
-
-  held_told : (status : ℕ) → status ≡ 1 → after ≡ before → KeepsFiles files later → Keeps out now → Tells memory_line old new
-      → ConvertsHeld rules advice wanted files notes text later status before after old new out now
-  unfolding ConvertsHeld ConvertsText RefusesText
-  held_told status one same stay nothing told = inr (same, inr (one, inl (stay, nothing, inl told)))
-
-  pub rewritten_printed : (status : ℕ) → length text ≤ LONGEST_SOURCE → IsMistyped text → ConvertsParts wanted [] rules (as_it_is notes text) files later status before after old new out now
-      → ConvertsHeld rules advice wanted files notes text later status before after old new out now
-  unfolding ConvertsParts
-  rewritten_printed status short mistyped (inl done) =
-      held_printed status [] done.text done.notes (line_table wanted.file [] (as_it_is notes text) done.changes done.text) (rewritten mistyped done.converted) done.printed
-  rewritten_printed status short mistyped (inr (one, same, stay, nothing, inl told)) = held_told status one same stay nothing told
-  rewritten_printed status short mistyped (inr (one, same, stay, nothing, inr told)) = absurd (mistyped_is_converted text told.fault short mistyped told.cause)
-
-  pub old_converted : (status : ℕ) (entries : List Entry) (parts : Parts) → IsPutTogether advice wanted files notes text entries parts
-      → ConvertsParts wanted entries rules parts files later status before after old new out now → ConvertsHeld rules advice wanted files notes text later status before after old new out now
-  unfolding ConvertsHeld ConvertsText RefusesText ConvertsParts
-  old_converted status entries parts put (inl done) =
-      held_printed status entries done.text done.notes (line_table wanted.file entries parts done.changes done.text) (changed put done.converted) done.printed
-  old_converted status entries parts put (inr (one, same, stay, nothing, inl told)) = held_told status one same stay nothing told
-  old_converted status entries parts put (inr (one, same, stay, nothing, inr told)) = inr (
-    same,
-    inr (
-      one,
-      inl (
-        stay,
-        nothing,
-        inr (inr (record { entries = entries; parts = parts; together = put; fault = told.fault; cause = told.cause; told = told.told })),
-      ),
     ),
   )
 
@@ -285,16 +264,44 @@ module _ (rules : List Rule) (advice : Advice) (wanted : ConvertWanted) (files l
   unfolding ConvertsHeld ConvertsText RefusesText
   held_unheld status one same stay told = inr (same, inr (one, inl (stay, stays_written out, inl told)))
 
-  pub held_too_long : (status : ℕ) → status ≡ 1 → LONGEST_SOURCE < length text → Tells (refusal_line (number_of TooLong) wanted.file 0) old new
-      → ConvertsHeld rules advice wanted files notes text files status before before old new out out
+  pub held_refused : (status : ℕ) (refusal : Refusal) → status ≡ 1 → KeepsFiles files later → Tells (told_line refusal) old new
+      → IsRefusedAs advice wanted files notes text before after refusal → ConvertsHeld rules advice wanted files notes text later status before after old new out out
   unfolding ConvertsHeld ConvertsText RefusesText
-  held_too_long status one long told = inr (refl, inr (one, inl (unchanged files, stays_written out, inr (inl (record { long = long; told = told })))))
-
-  pub held_stopped : (status : ℕ) (stop : List ℕ) → status ≡ 1 → CountsFailure before after → KeepsFiles files later → StopsIncluding advice wanted files notes text stop
-      → Tells (file_line stop) old new → ConvertsHeld rules advice wanted files notes text later status before after old new out out
-  unfolding ConvertsHeld
-  held_stopped status stop one counted stay stopped told =
-      inl (one, stays_written out, record { counted = counted; name = stop; stopped = inl (stay, stopped); told = told })
+  held_refused status refusal one stay told (inl unread) = inl (
+    one,
+    stays_written out,
+    record {
+      counted = unread.counted;
+      name = refusal.file.items;
+      stopped = inl (stay, unread.stops);
+      told = subst (λ (l : List ℕ). Tells l old new) unread.line_is told;
+    },
+  )
+  held_refused status refusal one stay told (inr (same, inl long)) = inr (
+    same,
+    inr (
+      one,
+      inl (stay, stays_written out, inr (inl (record { long = long.long; told = subst (λ (l : List ℕ). Tells l old new) long.line_is told }))),
+    ),
+  )
+  held_refused status refusal one stay told (inr (same, inr source)) = inr (
+    same,
+    inr (
+      one,
+      inl (
+        stay,
+        stays_written out,
+        inr (inr (record {
+          entries = source.entries;
+          parts = source.parts;
+          together = source.together;
+          fault = source.refuses.fault;
+          cause = source.refuses.cause;
+          told = subst (λ (l : List ℕ). Tells l old new) source.refuses.line_is told;
+        })),
+      ),
+    ),
+  )
 
 -- what a text that is no module is put together of
 module _ (advice : Advice) (wanted : ConvertWanted) (files : Option Directory) (before : List PlacedNote) (text : List ℕ) where
@@ -308,11 +315,6 @@ module _ (advice : Advice) (wanted : ConvertWanted) (files : Option Directory) (
         ∙ ap (λ (s : List ℕ). assembled advice entries before sets s) source_is
         ∙ ap (λ (l : List (List ℕ)). assembled advice entries before l (plain text)) sets_are;
   }
-
-  pub stops_including : (source stop : List ℕ) → source ≡ plain text → IsNoModule text → StopsLookingForNext advice wanted files before source stop
-      → StopsIncluding advice wanted files before text stop
-  stops_including source stop source_is none next =
-      record { none = none; next = subst (λ (s : List ℕ). StopsLookingForNext advice wanted files before s stop) source_is next }
 
 -- what is put together of files is put together of them as they were
 module _ (was files later : Option Directory) (kept : KeepsFiles was files) (rules : List Rule) (advice : Advice) (wanted : ConvertWanted) (before : List PlacedNote) (text : List ℕ) where
@@ -431,7 +433,7 @@ module _ (rules : List Rule) (advice : Advice) (wanted : ConvertWanted) (files l
   file_unheld status one same stay told = inr (inl (one, stay, record { count = same; told = told; nothing = stays_written out }))
 
   -- with the source of the file, and what was told of its lines
-  source_converted : (status middle : ℕ) (text : List ℕ) (held : Option Directory) → KeepsFiles files held → middle ≡ before → HasFile files wanted.file text
+  pub source_converted : (status middle : ℕ) (text : List ℕ) (held : Option Directory) → KeepsFiles files held → middle ≡ before → HasFile files wanted.file text
       → ConvertsHeld rules advice wanted held (prepared_notes advice (medium_of wanted) text) (prepared (medium_of wanted) text) later status middle after old new out now
       → ConvertsFile rules advice wanted files later status before after old new out now
   unfolding ConvertsFile ConvertsHeld
@@ -457,12 +459,6 @@ module _ (rules : List Rule) (advice : Advice) (wanted : ConvertWanted) (files l
       converted = was_converted files held later kept rules advice wanted (prepared_notes advice (medium_of wanted) text) (prepared (medium_of wanted) text) status old new out now converts;
     },
   ))
-
-  pub file_converted : (status middle : ℕ) (text source : List ℕ) (notes : List PlacedNote) (held : Option Directory) → KeepsFiles files held → middle ≡ before → HasFile files wanted.file text
-      → source ≡ prepared (medium_of wanted) text → notes ≡ prepared_notes advice (medium_of wanted) text
-      → ConvertsHeld rules advice wanted held notes source later status middle after old new out now → ConvertsFile rules advice wanted files later status before after old new out now
-  file_converted status middle text source notes held kept same read source_is notes_are converts =
-      source_converted status middle text held kept same read (rw (sym source_is, sym notes_are) converts)
 
 -- the rules and what is told are those of the tables
 pub by_tables : (rules : List Rule) (advice : Advice) (wanted : ConvertWanted) (files later : Option Directory) (status before after : ℕ) (old new out now : Option (List ℕ))

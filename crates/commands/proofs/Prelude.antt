@@ -9,7 +9,7 @@ pub use Rattle.words.proofs.LawsReadings.{one_reading}
 pub use Rattle.words.specs.{Spelling.{Lexeme, lexemes_of}, declared.limits.TheConstants.{LONGEST_SOURCE}}
 pub use Rattle.literally.proofs.{Failures.{passed_on}, LawsOneExpansion.{not_both}}
 pub use Rattle.literally.specs.Expansion.{Expands}
-pub use Rattle.convert.specs.{Advice.{advice_view, usual_advice}, Assembly.{Parts, as_it_is, assembled}, Conversion.{IsRefused, no_expansion, no_words}, Edits.{Change}, Includes.{candidates}, Lines.{plain}, Origins.{line_table}, Preparing.{prepared, prepared_notes}, Sources.{IsConverted, note_lines, place_at}, Table.{rule_view, table_of_rules}, declared.{advice.Advice.{Advice}, assembly.PlacedNote.{PlacedNote}, includes.Entry.{Entry}, rule.Rule.{Rule}}}
+pub use Rattle.convert.specs.{Advice.{advice_view, usual_advice}, Assembly.{Parts, as_it_is, assembled}, Conversion.{IsRefused, no_expansion, no_words}, Includes.{candidates}, Lines.{plain}, Origins.{line_table}, Preparing.{prepared, prepared_notes}, Sources.{note_lines}, Table.{rule_view, table_of_rules}, declared.{advice.Advice.{Advice}, assembly.PlacedNote.{PlacedNote}, includes.Entry.{Entry}, rule.Rule.{Rule}}}
 pub use Rattle.typed_trees.specs.{Jumps.{JumpsAreSound}, TypedTrees.{TypedModule}, Views.{module_view, object_view}, declared.module.Typed.{Typed}}
 pub use Rattle.typing.specs.declared.fault.Cause.{Cause}
 pub use Rattle.layout.specs.{Joined.{IsJoined}, Placement.{ModulePlacement, Placement}}
@@ -39,7 +39,7 @@ pub use Rattle.object_commands.specs.{Linking.{KeepsOthers, StopsWriting}, Listi
 unfoldable pub use Rattle.object_commands.specs.Merging.{RefusesPlacing}
 pub use Rattle.clap.specs.{Walk.{texts}, Words.{Kinds, kind_of}, declared.error.ErrorKind.TheVariants.{DisplayHelp, DisplayVersion}}
 pub use Rattle.commands.specs.Compiling.{CompilesFile, CompilesTo, StopsCompiling}
-pub use Rattle.commands.specs.Converting.{Converts, ConvertsAsWanted, ConvertsByTables, ConvertsByWords, HasNoConversion, IsMistyped, IsModule, IsNoModule, IsPutTogether, StopsIncluding, StopsSource, TellsAsWanted, TellsByWords, TellsOutput, changed, fault_line_at, medium_of, rewritten}
+pub use Rattle.commands.specs.Converting.{Converts, ConvertsAsWanted, ConvertsByTables, ConvertsByWords, HasNoConversion, IsMistyped, IsModule, IsNoModule, IsPutTogether, StopsSource, TellsAsWanted, TellsByWords, TellsOutput, changed, medium_of, rewritten}
 unfoldable pub use Rattle.commands.specs.Converting.{ConvertsFile, ConvertsText, RefusesText}
 pub use Rattle.commands.specs.Ends.{GivesInput, bytes_to, machine_status, machine_word, source_status, source_word}
 pub use Rattle.commands.specs.Executing.{PrintsExecution, PrintsMerge, StopsImage, StopsRead}
@@ -69,8 +69,9 @@ pub use Rattle.commands.specs.Steps.{CarriesOut, ComesToDry, DoesAsSource, DoesO
 pub use Rattle.commands.specs.Tables.{BeginsTable, WritesTable}
 pub use Rattle.commands.specs.declared.needs.fault.NeedFault.{NeedFault}
 pub use Rattle.commands.specs.declared.needs.fault.NeedFault.TheVariants.{Join}
-pub use Rattle.commands.specs.internal.Converting.{IsOfForm, PrintsModule, form_of_fault, table_if}
-unfoldable pub use Rattle.commands.specs.internal.Converting.{ConvertsHeld, ConvertsParts, PrintsNoted, PrintsTabled}
+pub use Rattle.commands.specs.declared.converting.{Conversion.{Conversion}, Refusal.{Refusal}}
+pub use Rattle.commands.specs.internal.Converting.{ComesOf, IsConvertedTo, IsMadeOf, IsOfForm, IsRefusedAs, RefusesParts, UnlessFault, form_of_fault, table_if, told_line}
+unfoldable pub use Rattle.commands.specs.internal.Converting.{ConvertsHeld, PrintsTabled, PrintsTold}
 pub use Rattle.commands.specs.internal.InputPorts.{HasMore, IsAtDry, IsLeft, IsPast, ReadsNext, ReadsNothing, StaysWithin, left_at}
 pub use Rattle.commands.specs.internal.LineFaults.{IsWrong}
 pub use Rattle.commands.specs.internal.Outcomes.{EndsAsSource, EndsOnMachine, EndsRun, told_of}

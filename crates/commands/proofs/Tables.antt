@@ -1,5 +1,5 @@
 -- Tables of lines that were written, or not.
-use Rattle.commands.proofs.Prelude.{◌≡◌, ℕ, List, Bor, Option, None, Some, inl, inr, refl, sym, ap, subst, ◌∙◌, ChangesFiles, Directory, KeepsFiles, with_file, stays_on, StopsWriting, kept_others, kept_then_others, kept_then_written, written_others, kept_then_stopped, files_stay, convert_in, ConvertOrder, BeginsTable, WritesTable, table_if}
+use Rattle.commands.proofs.Prelude.{◌≡◌, ℕ, List, Bor, Option, None, Some, inl, inr, refl, ap, subst, ◌∙◌, ChangesFiles, Directory, KeepsFiles, with_file, stays_on, StopsWriting, kept_others, kept_then_written, files_stay, convert_in, ConvertOrder, BeginsTable, WritesTable, table_if}
 use Rattle.commands.specs.Tables.{KeepsAllBut}
 
 pub kept_all_but : (name : Option (List ℕ)) (old new : Option Directory) → KeepsFiles old new → KeepsAllBut name old new
@@ -8,19 +8,6 @@ kept_all_but (Some name) old new kept = kept_others old new name kept
 
 pub kept_same : (name : Option (List ℕ)) (files : Option Directory) → KeepsAllBut name files files
 kept_same name files = kept_all_but name files files (files_stay files)
-
--- after files that stayed none changes but that of the table
-pub kept_then_all_but : (name : Option (List ℕ)) (old now new : Option Directory) → KeepsFiles old now → KeepsAllBut name now new → KeepsAllBut name old new
-kept_then_all_but None old now new kept changes = stays_on old now new kept changes
-kept_then_all_but (Some name) old now new kept changes = kept_then_others old now new name kept changes
-
--- the file of the table was written, or could not be
-pub written_but : (wanted : Option (List ℕ)) (name : List ℕ) (old new : Option Directory) (table : List ℕ) → wanted ≡ Some name → ChangesFiles old new (with_file name table)
-    → KeepsAllBut wanted old new
-written_but wanted name old new table is written = subst (λ (o : Option (List ℕ)). KeepsAllBut o old new) (sym is) (written_others old new name table written)
-
-pub stopped_but : (wanted : Option (List ℕ)) (name : List ℕ) (old new : Option Directory) (table : List ℕ) → wanted ≡ Some name → StopsWriting old new name table → KeepsAllBut wanted old new
-stopped_but wanted name old new table is stopped = subst (λ (o : Option (List ℕ)). KeepsAllBut o old new) (sym is) (kept_then_stopped old old new name table (files_stay old) stopped)
 
 -- what was made of files was made of them as they were
 pub was_stopped_writing : (was files later : Option Directory) (name table : List ℕ) → KeepsFiles was files → StopsWriting files later name table → StopsWriting was later name table
@@ -34,11 +21,6 @@ was_written (Some name) was files later table kept written = kept_then_written w
 pub was_begun : (name : Option (List ℕ)) (was files later : Option Directory) (table : List ℕ) → KeepsFiles was files → BeginsTable name files later table → BeginsTable name was later table
 was_begun None was files later table kept begun = stays_on was files later kept begun
 was_begun (Some name) was files later table kept begun = was_stopped_writing was files later name table kept begun
-
--- where nothing was written, a beginning was
-pub kept_begins : (name : Option (List ℕ)) (files later : Option Directory) (table : List ℕ) → KeepsFiles files later → BeginsTable name files later table
-kept_begins None files later table kept = kept
-kept_begins (Some name) files later table kept = inl kept
 
 -- where no table is wanted, any will do
 pub table_written : (name : Option (List ℕ)) (files later : Option Directory) (full table : List ℕ) → table ≡ table_if name full → WritesTable name files later table

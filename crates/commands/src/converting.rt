@@ -2,30 +2,29 @@
 
 ghost use Rattle.std.specs.Prelude.{◌≡◌, ◌⊎◌, ◌<◌, ◌≤◌, [], length, IfOk};
 ghost use Rattle.host.specs.Failure.{IfFault};
+ghost use Rattle.host.specs.Files.{KeepsFiles};
+ghost use Rattle.host.specs.Refusals.{Tells, file_line, refusal_line};
 ghost use Rattle.host.specs.Writing.{AppendsBeginning};
 ghost use Rattle.words.specs.declared.limits.TheConstants.{LONGEST_SOURCE};
 ghost use Rattle.host.specs.internal.Endings.{status_of};
-ghost use Rattle.host.specs.Refusals.{Tells};
 ghost use Rattle.command_line.specs.internal.Orders.{convert_in};
 ghost use Rattle.convert.specs.Assembly.{as_it_is, parts_of};
 ghost use Rattle.convert.specs.Edits.{changes_of};
-ghost use Rattle.convert.specs.Origins.{line_table};
+ghost use Rattle.convert.specs.Preparing.{prepared, prepared_notes};
 ghost use Rattle.convert.specs.Sources.{IsConverted, place_at};
-ghost use Rattle.sources.specs.Faults.{line_of};
+ghost use Rattle.sources.specs.Faults.{line_of, number_of};
 ghost use Rattle.commands.specs.Converting.{ConvertsByTables, ConvertsFile, HasNoConversion, IsNoModule, fault_line_at, medium_of};
 ghost use Rattle.commands.specs.Tables.{KeepsAllBut};
-ghost use Rattle.commands.specs.internal.Converting.{ConvertsHeld, ConvertsParts, IsOfForm, PrintsConverted, PrintsModule, PrintsNoted, PrintsTabled, form_of_fault, table_if};
+ghost use Rattle.commands.specs.internal.Converting.{ComesOf, IsConvertedTo, RefusesParts, IsMadeOf, IsOfForm, IsRefusedAs, PrintsTabled, PrintsTold, UnlessFault, form_of_fault, told_line};
 
 use crate::including::included_files;
 use command_line::ConvertOrder;
 use convert::{
-    Advice, Assembly, Converted, Edit, Entry, Medium, PlacedNote, Rule, all_advice, all_rules,
-    assemble, assemble_as_is, convert_source, line_table, name_of_file, note_lines, place_at,
-    plain, prepare,
+    Advice, Assembly, Converted, Entry, Medium, PlacedNote, Rule, all_advice, all_rules, assemble,
+    assemble_as_is, convert_source, line_table, name_of_file, note_lines, place_at, plain, prepare,
 };
 use host::{
-    Ending, Failure, Files, refuse, refuse_file, refuse_memory, refuse_name, refuse_output,
-    write_bytes,
+    Ending, Failure, Files, refuse_file, refuse_memory, refuse_name, refuse_output, write_bytes,
 };
 use object_commands::write_file;
 use sources::{LONGEST_SOURCE, ReadFault, read_source};
@@ -41,6 +40,23 @@ pub(crate) enum Form {
     Mistyped,
     /// Neither.
     Old,
+}
+
+/// What a source is converted to: what is printed, the lines that tell its notes, and the table of its lines, where it is
+/// wanted. Of a source without notes no line is told.
+#[derive(Drop)]
+pub(crate) struct Conversion {
+    pub(crate) text: Vec<u8>,
+    pub(crate) told: Vec<u8>,
+    pub(crate) table: Vec<u8>,
+}
+
+/// Why a source is not converted: the number of a fault, the file that it is about, and the line there.
+#[derive(Drop)]
+pub(crate) struct Refusal {
+    pub(crate) number: &'static str,
+    pub(crate) file: Vec<u8>,
+    pub(crate) line: u32,
 }
 
 /// Converts the source of an order by the rules of their table.
@@ -87,10 +103,33 @@ fn convert_file<F: Files, O: Write, E: Write>(
         Err(Failure::Fault(fault)) => return refuse_file(fault, order.file, err),
         Err(Failure::Memory) => return refuse_memory(err),
     };
-    let Ok(prepared) = prepare(alloc, advice, medium_of(order), text.as_slice()) else {
-        return refuse_memory(err);
-    };
-    convert_text(
+    match converted_file(alloc, rules, advice, order, text.as_slice(), files) {
+        Ok(conversion) => report(order, &conversion, files, out, err),
+        Err(Failure::Fault(refusal)) => tell_refusal(&refusal, err),
+        Err(Failure::Memory) => refuse_memory(err),
+    }
+}
+
+// What the file of an order is converted to.
+fn converted_file<F: Files>(
+    alloc: Global,
+    rules: &[Rule],
+    advice: &Advice,
+    order: &ConvertOrder,
+    file: &[u8],
+    files: &mut F,
+) -> Result<Conversion, Failure<Refusal>>
+    ensures converted { IfOk result (IsConvertedTo rules.now advice.now (convert_in order.now)
+        (F.files files.old) (prepared_notes advice.now (medium_of (convert_in order.now)) file.now)
+        (prepared (medium_of (convert_in order.now)) file.now)) }
+    ensures refused { IfFault result (IsRefusedAs advice.now (convert_in order.now) (F.files files.old)
+        (prepared_notes advice.now (medium_of (convert_in order.now)) file.now)
+        (prepared (medium_of (convert_in order.now)) file.now) (F.failures files.old) (F.failures files.new)) }
+    ensures kept { KeepsFiles (F.files files.old) (F.files files.new) }
+    ensures count { UnlessFault result (F.failures files.new ≡ F.failures files.old) }
+{
+    let prepared = prepare(alloc, advice, medium_of(order), file)?;
+    converted_source(
         alloc,
         rules,
         advice,
@@ -98,8 +137,6 @@ fn convert_file<F: Files, O: Write, E: Write>(
         prepared.notes.as_slice(),
         prepared.text.as_slice(),
         files,
-        out,
-        err,
     )
 }
 
@@ -113,9 +150,8 @@ fn medium_of(order: &ConvertOrder) -> Medium
     }
 }
 
-// Converts the source of the file of an order, after what was told before.
-#[tactic(auto, using(crate::proofs::Tables::kept_same, crate::proofs::Tables::kept_all_but))]
-fn convert_text<F: Files, O: Write, E: Write>(
+// What a source is converted to, after what was told before.
+fn converted_source<F: Files>(
     alloc: Global,
     rules: &[Rule],
     advice: &Advice,
@@ -123,25 +159,25 @@ fn convert_text<F: Files, O: Write, E: Write>(
     before: &[PlacedNote],
     text: &[u8],
     files: &mut F,
-    out: &mut O,
-    err: &mut E,
-) -> Ending
-    ensures unchanged { KeepsAllBut (convert_in order.now).lines (F.files files.old) (F.files files.new) }
-    ensures converted { ConvertsHeld rules.now advice.now (convert_in order.now) (F.files files.old) before.now
-        text.now (F.files files.new) (status_of result) (F.failures files.old) (F.failures files.new)
-        (E.contents err.old) (E.contents err.new) (O.contents out.old) (O.contents out.new) }
-    ensures ending { (result ≡ Ending.Done) ⊎ (result ≡ Ending.Refused) }
-    ensures count { (result ≡ Ending.Refused → ⊥) → F.failures files.new ≡ F.failures files.old }
-    ensures quiet { (result ≡ Ending.Refused → ⊥) → E.contents err.new ≡ E.contents err.old }
+) -> Result<Conversion, Failure<Refusal>>
+    ensures converted { IfOk result
+        (IsConvertedTo rules.now advice.now (convert_in order.now) (F.files files.old) before.now text.now) }
+    ensures refused { IfFault result (IsRefusedAs advice.now (convert_in order.now) (F.files files.old)
+        before.now text.now (F.failures files.old) (F.failures files.new)) }
+    ensures kept { KeepsFiles (F.files files.old) (F.files files.new) }
+    ensures count { UnlessFault result (F.failures files.new ≡ F.failures files.old) }
 {
     if text.len() > LONGEST_SOURCE {
-        return refuse(ReadFault::TooLong.number(), order.file, 0, err);
+        let refusal = refusal_of(alloc, ReadFault::TooLong, order.file.as_bytes(), 0)?;
+        return Err(Failure::Fault(refusal));
     }
-    match form_of(alloc, text) {
-        Ok(Form::Module) => print_module(alloc, order, before, text, files, out, err),
-        Ok(Form::Mistyped) => rewrite(alloc, rules, order, before, text, files, out, err),
-        Ok(Form::Old) => { convert_old(alloc, rules, advice, order, before, text, files, out, err) }
-        Err(_) => refuse_memory(err),
+    match form_of(alloc, text)? {
+        Form::Module => {
+            let conversion = module_as_it_is(alloc, order, before, text)?;
+            Ok(conversion)
+        }
+        Form::Mistyped => converted_module(alloc, rules, order, before, text),
+        Form::Old => converted_old(alloc, rules, advice, order, before, text, files),
     }
 }
 
@@ -171,71 +207,43 @@ fn form_of_fault(fault: ReadFault) -> Form
     }
 }
 
-// Prints a module as it is.
-#[tactic(auto, using(crate::proofs::Tables::kept_same, crate::proofs::Tables::kept_all_but))]
-fn print_module<F: Files, O: Write, E: Write>(
+// A module as it is.
+fn module_as_it_is(
     alloc: Global,
     order: &ConvertOrder,
     before: &[PlacedNote],
     text: &[u8],
-    files: &mut F,
-    out: &mut O,
-    err: &mut E,
-) -> Ending
-    ensures unchanged { KeepsAllBut (convert_in order.now).lines (F.files files.old) (F.files files.new) }
-    ensures printed { PrintsModule (convert_in order.now) before.now text.now (F.files files.old)
-        (F.files files.new) (status_of result) (F.failures files.old) (F.failures files.new)
-        (E.contents err.old) (E.contents err.new) (O.contents out.old) (O.contents out.new) }
-    ensures ending { (result ≡ Ending.Done) ⊎ (result ≡ Ending.Refused) }
-    ensures count { (result ≡ Ending.Refused → ⊥) → F.failures files.new ≡ F.failures files.old }
-    ensures quiet { (result ≡ Ending.Refused → ⊥) → E.contents err.new ≡ E.contents err.old }
+) -> Result<Conversion, AllocError>
+    ensures { IfOk result
+        (IsMadeOf (convert_in order.now) [] (as_it_is before.now text.now) [] text.now before.now) }
 {
-    match assemble_as_is(alloc, before, text) {
-        Ok(assembly) => print_changed(
-            alloc,
-            order,
-            &[],
-            &assembly,
-            &[],
-            text,
-            before,
-            files,
-            out,
-            err,
-        ),
-        Err(_) => refuse_memory(err),
-    }
+    let assembly = assemble_as_is(alloc, before, text)?;
+    let unchanged = Converted {
+        text: Vec::from_slice(alloc, text)?,
+        edits: Vec::new(alloc),
+        notes: Vec::from_slice(alloc, before)?,
+    };
+    conversion_of(alloc, order, &[], &assembly, unchanged)
 }
 
-// Changes the words of a text that would be a module but for a fault of names or of types.
-#[tactic(auto, using(crate::proofs::Tables::kept_same, crate::proofs::Tables::kept_all_but))]
-fn rewrite<F: Files, O: Write, E: Write>(
+// What a text is converted to that would be a module but for a fault of names or of types: its words alone are changed.
+fn converted_module(
     alloc: Global,
     rules: &[Rule],
     order: &ConvertOrder,
     before: &[PlacedNote],
     text: &[u8],
-    files: &mut F,
-    out: &mut O,
-    err: &mut E,
-) -> Ending
-    ensures unchanged { KeepsAllBut (convert_in order.now).lines (F.files files.old) (F.files files.new) }
-    ensures converted { ConvertsParts (convert_in order.now) [] rules.now (as_it_is before.now text.now)
-        (F.files files.old) (F.files files.new) (status_of result) (F.failures files.old) (F.failures files.new)
-        (E.contents err.old) (E.contents err.new) (O.contents out.old) (O.contents out.new) }
-    ensures ending { (result ≡ Ending.Done) ⊎ (result ≡ Ending.Refused) }
-    ensures count { (result ≡ Ending.Refused → ⊥) → F.failures files.new ≡ F.failures files.old }
-    ensures quiet { (result ≡ Ending.Refused → ⊥) → E.contents err.new ≡ E.contents err.old }
+) -> Result<Conversion, Failure<Refusal>>
+    ensures made { IfOk result
+        (ComesOf (convert_in order.now) [] (as_it_is before.now text.now) rules.now) }
+    ensures refused { IfFault result (RefusesParts (convert_in order.now) [] (as_it_is before.now text.now)) }
 {
-    match assemble_as_is(alloc, before, text) {
-        Ok(assembly) => print_assembly(alloc, rules, order, &[], &assembly, files, out, err),
-        Err(_) => refuse_memory(err),
-    }
+    let assembly = assemble_as_is(alloc, before, text)?;
+    converted_assembly(alloc, rules, order, &[], &assembly)
 }
 
-// Converts a text that is no module.
-#[tactic(auto, using(crate::proofs::Tables::kept_same, crate::proofs::Tables::kept_all_but))]
-fn convert_old<F: Files, O: Write, E: Write>(
+// What a text is converted to that is no module, with the files that it includes.
+fn converted_old<F: Files>(
     alloc: Global,
     rules: &[Rule],
     advice: &Advice,
@@ -243,147 +251,71 @@ fn convert_old<F: Files, O: Write, E: Write>(
     before: &[PlacedNote],
     text: &[u8],
     files: &mut F,
-    out: &mut O,
-    err: &mut E,
-) -> Ending
+) -> Result<Conversion, Failure<Refusal>>
     requires { IsNoModule text.now }
-    ensures unchanged { KeepsAllBut (convert_in order.now).lines (F.files files.old) (F.files files.new) }
-    ensures converted { ConvertsHeld rules.now advice.now (convert_in order.now) (F.files files.old) before.now
-        text.now (F.files files.new) (status_of result) (F.failures files.old) (F.failures files.new)
-        (E.contents err.old) (E.contents err.new) (O.contents out.old) (O.contents out.new) }
-    ensures ending { (result ≡ Ending.Done) ⊎ (result ≡ Ending.Refused) }
-    ensures count { (result ≡ Ending.Refused → ⊥) → F.failures files.new ≡ F.failures files.old }
-    ensures quiet { (result ≡ Ending.Refused → ⊥) → E.contents err.new ≡ E.contents err.old }
+    ensures converted { IfOk result
+        (IsConvertedTo rules.now advice.now (convert_in order.now) (F.files files.old) before.now text.now) }
+    ensures refused { IfFault result (IsRefusedAs advice.now (convert_in order.now) (F.files files.old)
+        before.now text.now (F.failures files.old) (F.failures files.new)) }
+    ensures kept { KeepsFiles (F.files files.old) (F.files files.new) }
+    ensures count { UnlessFault result (F.failures files.new ≡ F.failures files.old) }
 {
-    let Ok(source) = plain(alloc, text) else {
-        return refuse_memory(err);
-    };
+    let source = plain(alloc, text)?;
     let entries = match included_files(alloc, advice, order, before, source.as_slice(), files) {
         Ok(entries) => entries,
-        Err(Failure::Fault(name)) => return refuse_name("U3", name.as_slice(), 0, err),
-        Err(Failure::Memory) => return refuse_memory(err),
+        Err(Failure::Fault(name)) => return Err(Failure::Fault(unread(name))),
+        Err(Failure::Memory) => return Err(Failure::Memory),
     };
     let sets = order.sets.as_slice();
-    match assemble(
+    let assembly = assemble(
         alloc,
         advice,
         entries.as_slice(),
         before,
         sets,
         source.as_slice(),
-    ) {
-        Ok(assembly) => print_assembly(
-            alloc,
-            rules,
-            order,
-            entries.as_slice(),
-            &assembly,
-            files,
-            out,
-            err,
-        ),
-        Err(_) => refuse_memory(err),
+    )?;
+    converted_assembly(alloc, rules, order, entries.as_slice(), &assembly)
+}
+
+// That a file that is included can't be read.
+fn unread(name: Vec<u8>) -> Refusal
+    ensures line { told_line result ≡ file_line name.items }
+    ensures file { result.file.items ≡ name.items }
+{
+    Refusal {
+        number: "U3",
+        file: name,
+        line: 0,
     }
 }
 
-// Prints what was put together, converted.
-#[tactic(auto, using(crate::proofs::Tables::kept_same, crate::proofs::Tables::kept_all_but))]
-fn print_assembly<F: Files, O: Write, E: Write>(
+// What is converted of what was put together of a source and of these files.
+fn converted_assembly(
     alloc: Global,
     rules: &[Rule],
     order: &ConvertOrder,
     entries: &[Entry],
     assembly: &Assembly,
-    files: &mut F,
-    out: &mut O,
-    err: &mut E,
-) -> Ending
-    ensures unchanged { KeepsAllBut (convert_in order.now).lines (F.files files.old) (F.files files.new) }
-    ensures converted { ConvertsParts (convert_in order.now) entries.now rules.now (parts_of assembly.now)
-        (F.files files.old) (F.files files.new) (status_of result) (F.failures files.old) (F.failures files.new)
-        (E.contents err.old) (E.contents err.new) (O.contents out.old) (O.contents out.new) }
-    ensures ending { (result ≡ Ending.Done) ⊎ (result ≡ Ending.Refused) }
-    ensures count { (result ≡ Ending.Refused → ⊥) → F.failures files.new ≡ F.failures files.old }
-    ensures quiet { (result ≡ Ending.Refused → ⊥) → E.contents err.new ≡ E.contents err.old }
+) -> Result<Conversion, Failure<Refusal>>
+    ensures made { IfOk result
+        (ComesOf (convert_in order.now) entries.now (parts_of assembly.now) rules.now) }
+    ensures refused { IfFault result (RefusesParts (convert_in order.now) entries.now (parts_of assembly.now)) }
 {
     match converted_text(alloc, rules, assembly) {
         Ok(converted) => {
-            print_changed(
-                alloc,
-                order,
-                entries,
-                assembly,
-                converted.edits.as_slice(),
-                converted.text.as_slice(),
-                converted.notes.as_slice(),
-                files,
-                out,
-                err,
-            )
+            let conversion = conversion_of(alloc, order, entries, assembly, converted)?;
+            Ok(conversion)
         }
-        Err(Failure::Fault(fault)) => refuse_fault(order.file, entries, assembly, &fault, err),
-        Err(Failure::Memory) => refuse_memory(err),
+        Err(Failure::Fault(fault)) => {
+            let refusal = fault_of(alloc, order.file, entries, assembly, &fault)?;
+            Err(Failure::Fault(refusal))
+        }
+        Err(Failure::Memory) => Err(Failure::Memory),
     }
 }
 
-// Prints what these edits make of what was put together.
-#[tactic(auto, using(crate::proofs::Tables::kept_same, crate::proofs::Tables::kept_all_but))]
-fn print_changed<F: Files, O: Write, E: Write>(
-    alloc: Global,
-    order: &ConvertOrder,
-    entries: &[Entry],
-    assembly: &Assembly,
-    edits: &[Edit],
-    text: &[u8],
-    notes: &[PlacedNote],
-    files: &mut F,
-    out: &mut O,
-    err: &mut E,
-) -> Ending
-    ensures unchanged { KeepsAllBut (convert_in order.now).lines (F.files files.old) (F.files files.new) }
-    ensures printed { PrintsConverted (convert_in order.now) entries.now (parts_of assembly.now)
-        (changes_of edits.now) text.now notes.now
-        (F.files files.old) (F.files files.new) (status_of result) (F.failures files.old) (F.failures files.new)
-        (E.contents err.old) (E.contents err.new) (O.contents out.old) (O.contents out.new) }
-    ensures ending { (result ≡ Ending.Done) ⊎ (result ≡ Ending.Refused) }
-    ensures count { (result ≡ Ending.Refused → ⊥) → F.failures files.new ≡ F.failures files.old }
-    ensures quiet { (result ≡ Ending.Refused → ⊥) → E.contents err.new ≡ E.contents err.old }
-{
-    let Ok(table) = table_of(alloc, order, entries, assembly, edits, text) else {
-        return refuse_memory(err);
-    };
-    print_tabled(
-        alloc,
-        order,
-        table.as_slice(),
-        entries,
-        text,
-        notes,
-        files,
-        out,
-        err,
-    )
-}
-
-// The table of lines of what these edits make of what was put together, if it is wanted.
-fn table_of(
-    alloc: Global,
-    order: &ConvertOrder,
-    entries: &[Entry],
-    assembly: &Assembly,
-    edits: &[Edit],
-    text: &[u8],
-) -> Result<Vec<u8>, AllocError>
-    ensures { IfOk result (λ table. table.items ≡ table_if (convert_in order.now).lines
-        (line_table order.now.file.now entries.now (parts_of assembly.now) (changes_of edits.now) text.now)) }
-{
-    match order.lines {
-        Some(_) => line_table(alloc, order.file, entries, assembly, edits, text),
-        None => Ok(Vec::new(alloc)),
-    }
-}
-
-// What was put together, converted.
+// What was put together, with its words changed.
 fn converted_text(
     alloc: Global,
     rules: &[Rule],
@@ -403,91 +335,128 @@ fn converted_text(
     }
 }
 
-// Prints the number of a fault, and where it was found.
-fn refuse_fault<E: Write>(
+// What is printed and told of what was converted, with the table of its lines, if it is wanted.
+fn conversion_of(
+    alloc: Global,
+    order: &ConvertOrder,
+    entries: &[Entry],
+    assembly: &Assembly,
+    converted: Converted,
+) -> Result<Conversion, AllocError>
+    ensures { IfOk result (IsMadeOf (convert_in order.now) entries.now (parts_of assembly.now)
+        (changes_of converted.edits.items) converted.text.items converted.notes.items) }
+{
+    let table = match order.lines {
+        Some(_) => line_table(
+            alloc,
+            order.file,
+            entries,
+            assembly,
+            converted.edits.as_slice(),
+            converted.text.as_slice(),
+        )?,
+        None => Vec::new(alloc),
+    };
+    let told = note_lines(alloc, order.file, entries, converted.notes.as_slice())?;
+    Ok(Conversion {
+        text: converted.text,
+        told,
+        table,
+    })
+}
+
+// A fault of what was put together, at the place from which its line comes.
+fn fault_of(
+    alloc: Global,
     name: &str,
     entries: &[Entry],
     assembly: &Assembly,
     fault: &ReadFault,
-    err: &mut E,
-) -> Ending
-    ensures ending { result ≡ Ending.Refused }
-    ensures told { Tells (fault_line_at name.now entries.now
-        (place_at (parts_of assembly.now).places (line_of fault.now)) fault.now)
-        (E.contents err.old) (E.contents err.new) }
+) -> Result<Refusal, AllocError>
+    ensures { IfOk result (λ refusal. told_line refusal ≡ fault_line_at name.now entries.now
+        (place_at (parts_of assembly.now).places (line_of fault.now)) fault.now) }
 {
     let place = place_at(assembly.places.as_slice(), fault.line() as usize);
     let file = name_of_file(name.as_bytes(), entries, place.file);
     let line = place.line.min(4_294_967_295) as u32;
-    refuse_name(fault.number(), file, line, err)
+    refusal_of(alloc, *fault, file, line)
 }
 
-// Writes the table of a text if it is wanted, prints the text, and tells its notes.
-#[tactic(auto, using(crate::proofs::Tables::kept_same, crate::proofs::Tables::kept_all_but))]
-fn print_tabled<F: Files, O: Write, E: Write>(
+// A fault that is told at a line of a file.
+fn refusal_of(
     alloc: Global,
+    fault: ReadFault,
+    file: &[u8],
+    line: u32,
+) -> Result<Refusal, AllocError>
+    ensures { IfOk result (λ refusal. told_line refusal ≡ refusal_line (number_of fault) file.now line) }
+{
+    Ok(Refusal {
+        number: fault.number(),
+        file: Vec::from_slice(alloc, file)?,
+        line,
+    })
+}
+
+// Tells why a source is not converted.
+fn tell_refusal<E: Write>(refusal: &Refusal, err: &mut E) -> Ending
+    ensures ending { result ≡ Ending.Refused }
+    ensures told { Tells (told_line refusal.now) (E.contents err.old) (E.contents err.new) }
+{
+    refuse_name(refusal.number, refusal.file.as_slice(), refusal.line, err)
+}
+
+// Writes the table of a conversion, if it is wanted, prints the text, and tells the notes.
+#[tactic(auto, using(crate::proofs::Tables::kept_same, crate::proofs::Tables::kept_all_but))]
+fn report<F: Files, O: Write, E: Write>(
     order: &ConvertOrder,
-    table: &[u8],
-    entries: &[Entry],
-    text: &[u8],
-    notes: &[PlacedNote],
+    conversion: &Conversion,
     files: &mut F,
     out: &mut O,
     err: &mut E,
 ) -> Ending
     ensures unchanged { KeepsAllBut (convert_in order.now).lines (F.files files.old) (F.files files.new) }
-    ensures printed { PrintsTabled (convert_in order.now) entries.now text.now notes.now table.now
-        (F.files files.old) (F.files files.new) (status_of result) (F.failures files.old) (F.failures files.new)
+    ensures printed { PrintsTabled (convert_in order.now) conversion.now (F.files files.old)
+        (F.files files.new) (status_of result) (F.failures files.old) (F.failures files.new)
         (E.contents err.old) (E.contents err.new) (O.contents out.old) (O.contents out.new) }
     ensures ending { (result ≡ Ending.Done) ⊎ (result ≡ Ending.Refused) }
     ensures count { (result ≡ Ending.Refused → ⊥) → F.failures files.new ≡ F.failures files.old }
     ensures quiet { (result ≡ Ending.Refused → ⊥) → E.contents err.new ≡ E.contents err.old }
 {
     let Some(name) = order.lines else {
-        return print_noted(alloc, order.file, entries, text, notes, out, err);
+        return print(conversion, out, err);
     };
-    match write_file(name, table, files) {
-        Ok(()) => print_noted(alloc, order.file, entries, text, notes, out, err),
+    match write_file(name, conversion.table.as_slice(), files) {
+        Ok(()) => print(conversion, out, err),
         Err(Failure::Fault(fault)) => refuse_file(fault, name, err),
         Err(Failure::Memory) => refuse_memory(err),
     }
 }
 
-// Prints a text, and tells its notes.
-fn print_noted<O: Write, E: Write>(
-    alloc: Global,
-    name: &str,
-    entries: &[Entry],
-    text: &[u8],
-    notes: &[PlacedNote],
-    out: &mut O,
-    err: &mut E,
-) -> Ending
-    ensures printed { PrintsNoted name.now entries.now text.now notes.now (status_of result)
+// Prints the text of a conversion, and tells the notes.
+fn print<O: Write, E: Write>(conversion: &Conversion, out: &mut O, err: &mut E) -> Ending
+    ensures printed { PrintsTold conversion.now (status_of result)
         (E.contents err.old) (E.contents err.new) (O.contents out.old) (O.contents out.new) }
     ensures ending { (result ≡ Ending.Done) ⊎ (result ≡ Ending.Refused) }
     ensures quiet { (result ≡ Ending.Refused → ⊥) → E.contents err.new ≡ E.contents err.old }
 {
-    let Ok(lines) = note_lines(alloc, name, entries, notes) else {
-        return refuse_memory(err);
-    };
-    match write_bytes(out, text) {
-        Ok(()) => tell_notes(notes, lines.as_slice(), err),
+    match write_bytes(out, conversion.text.as_slice()) {
+        Ok(()) => tell(conversion.told.as_slice(), err),
         Err(Failure::Fault(_)) => refuse_output(err),
         Err(Failure::Memory) => refuse_memory(err),
     }
 }
 
-// Tells the lines of notes, if there are notes.
-fn tell_notes<E: Write>(notes: &[PlacedNote], lines: &[u8], err: &mut E) -> Ending
-    ensures done { result ≡ Ending.Done → notes.now ≡ [] }
-    ensures some { result ≡ Ending.Refused → 0 < length notes.now }
+// Tells the lines of notes, if there are any.
+fn tell<E: Write>(lines: &[u8], err: &mut E) -> Ending
+    ensures done { result ≡ Ending.Done → lines.now ≡ [] }
+    ensures some { result ≡ Ending.Refused → 0 < length lines.now }
     ensures told { result ≡ Ending.Refused →
         AppendsBeginning (E.contents err.old) (E.contents err.new) lines.now }
     ensures ending { (result ≡ Ending.Done) ⊎ (result ≡ Ending.Refused) }
     ensures quiet { (result ≡ Ending.Refused → ⊥) → E.contents err.new ≡ E.contents err.old }
 {
-    if notes.is_empty() {
+    if lines.is_empty() {
         return Ending::Done;
     }
     let _ = write_bytes(err, lines);

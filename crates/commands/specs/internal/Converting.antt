@@ -1,25 +1,31 @@
--- What the parts of an order to convert print and tell.
-use Rattle.std.specs.Prelude.{◌≡◌, ◌⊎◌, ◌<◌, ℕ, List, [], length, Option, None, Some}
+-- What the parts of an order to convert make, print and tell.
+use Rattle.std.specs.Prelude.{◌≡◌, ◌⊎◌, ◌<◌, ℕ, List, [], length, Option, None, Some, Result, Ok, Err}
 use Rattle.std.specs.Io.KnownBytes.{Appends, Keeps}
+use Rattle.ports.specs.Events.{CountsFailure}
+use Rattle.words.specs.declared.limits.TheConstants.{LONGEST_SOURCE}
 use Rattle.host.specs.Writing.{AppendsBeginning}
-use Rattle.host.specs.Files.{Directory, KeepsFiles}
-use Rattle.host.specs.Refusals.{Tells, memory_line}
+use Rattle.host.specs.Files.{Directory}
+use Rattle.host.specs.Outcome.{Failure}
+use Rattle.host.specs.Outcome.TheVariants.{Fault, Memory}
+use Rattle.host.specs.Refusals.{Tells, file_line, memory_line, refusal_line}
 use Rattle.sources.specs.declared.read.ReadFault.{ReadFault}
 use Rattle.sources.specs.declared.read.ReadFault.TheVariants.{TooLong, Words, Expansion, Syntax, Typing, Storage}
-use Rattle.sources.specs.Faults.{line_of}
+use Rattle.sources.specs.Faults.{line_of, number_of}
 use Rattle.convert.specs.declared.advice.Advice.{Advice}
 use Rattle.convert.specs.declared.assembly.PlacedNote.{PlacedNote}
 use Rattle.convert.specs.declared.includes.Entry.{Entry}
 use Rattle.convert.specs.declared.rule.Rule.{Rule}
-use Rattle.convert.specs.Assembly.{Parts, as_it_is}
+use Rattle.convert.specs.Assembly.{Parts}
 use Rattle.convert.specs.Edits.{Change}
 use Rattle.convert.specs.Origins.{line_table}
 use Rattle.convert.specs.Sources.{IsConverted, note_lines, place_at}
 use Rattle.command_line.specs.Command.{ConvertWanted}
 use Rattle.object_commands.specs.Linking.{StopsWriting}
+use Rattle.commands.specs.declared.converting.Conversion.{Conversion}
 use Rattle.commands.specs.declared.converting.Form.{Form}
 use Rattle.commands.specs.declared.converting.Form.TheVariants.{Mistyped, Module, Old}
-use Rattle.commands.specs.Converting.{ConvertsText, HasNoConversion, IsMistyped, IsModule, IsNoModule, StopsSource, fault_line_at}
+use Rattle.commands.specs.declared.converting.Refusal.{Refusal}
+use Rattle.commands.specs.Converting.{Converts, ConvertsText, HasNoConversion, IsMistyped, IsModule, IsNoModule, IsPutTogether, StopsIncluding, StopsSource, fault_line_at}
 use Rattle.commands.specs.Refusing.{TellsFile, TellsUnwritten}
 use Rattle.commands.specs.Tables.{BeginsTable, WritesTable}
 
@@ -43,70 +49,92 @@ abbrev pub table_if : Option (List ℕ) → List ℕ → List ℕ
 table_if None table = []
 table_if (Some name) table = table
 
-module _ (name : List ℕ) (entries : List Entry) where
-  -- a text was printed, and its notes were told, or not
-  unfoldable pub PrintsNoted : (text : List ℕ) → List PlacedNote → (status : ℕ)
-      → (err_old err_new out_old out_new : Option (List ℕ)) → Type 0
-  PrintsNoted text notes status err_old err_new out_old out_new =
-      ((status ≡ 0) × (notes ≡ []) × Appends out_old out_new text)
-      ⊎ (((status ≡ 1) × (0 < length notes) × Appends out_old out_new text
-      × AppendsBeginning err_old err_new (note_lines name entries notes))
-      ⊎ ((status ≡ 1) × TellsUnwritten err_old err_new × AppendsBeginning out_old out_new text))
+-- the line that tells a refusal
+abbrev pub told_line : Refusal → List ℕ
+told_line refusal = refusal_line refusal.number.now refusal.file.items refusal.line
 
-module _ (wanted : ConvertWanted) (entries : List Entry) where
-  -- A text was printed and its notes were told, or not, once its table was written that is wanted. Or the file of the table
-  -- could not be written, or memory ran out by then.
-  unfoldable pub PrintsTabled :
-      (text : List ℕ) → List PlacedNote → (table : List ℕ) → (files now : Option Directory)
-      → (status before after : ℕ) → (err_old err_new out_old out_new : Option (List ℕ)) → Type 0
-  PrintsTabled text notes table files now status before after err_old err_new out_old out_new =
-      ((after ≡ before) × WritesTable wanted.lines files now table
-      × PrintsNoted wanted.file entries text notes status err_old err_new out_old out_new)
-      ⊎ (((status ≡ 1) × Keeps out_old out_new
-      × TellsFile (λ stop. (wanted.lines ≡ Some stop) × StopsWriting files now stop table) before after err_old err_new)
-      ⊎ ((status ≡ 1) × (after ≡ before) × BeginsTable wanted.lines files now table
-      × Tells memory_line err_old err_new × Keeps out_old out_new))
+-- something holds, but where a fault was found
+abbrev pub UnlessFault : {A F : Type 0} → Result A (Failure F) → Type 0 → Type 0
+UnlessFault (Ok value) P = P
+UnlessFault (Err (Fault fault)) P = Unit {0}
+UnlessFault (Err Memory) P = P
 
-  -- the same of a text that was made by these changes of what was put together, with the table of that
-  abbrev pub PrintsConverted :
-      Parts → List Change → (text : List ℕ) → List PlacedNote → (files now : Option Directory)
-      → (status before after : ℕ) → (err_old err_new out_old out_new : Option (List ℕ)) → Type 0
-  PrintsConverted parts changes text notes files now status before after err_old err_new out_old out_new =
-      PrintsTabled text notes (line_table wanted.file entries parts changes text) files now status before after
-      err_old err_new out_old out_new
+module _ (wanted : ConvertWanted) (entries : List Entry) (parts : Parts) where
+  -- what was put together was made by these changes to this text, with these notes
+  pub record IsMadeOf (changes : List Change) (text : List ℕ) (notes : List PlacedNote) (made : Conversion) : Type 0 where
+    pub text_is : made.text.items ≡ text
+    pub told_is : made.told.items ≡ note_lines wanted.file entries notes
+    pub table_is : made.table.items ≡ table_if wanted.lines (line_table wanted.file entries parts changes text)
 
-  -- what was put together was converted and printed
-  pub record PrintsParts (rules : List Rule) (parts : Parts) (files now : Option Directory) (status before after : ℕ)
-      (err_old err_new out_old out_new : Option (List ℕ)) : Type 0 where
+  -- the same by the changes of rules
+  pub record ComesOf (rules : List Rule) (made : Conversion) : Type 0 where
     pub changes : List Change
     pub text : List ℕ
     pub notes : List PlacedNote
     pub converted : IsConverted rules parts changes text notes
-    pub printed : PrintsConverted parts changes text notes files now status before after
-        err_old err_new out_old out_new
+    pub made_of : IsMadeOf changes text notes made
 
-  -- its fault was told
-  pub record TellsOfParts (parts : Parts) (old new : Option (List ℕ)) : Type 0 where
+  -- what was put together has a fault, and this tells it
+  pub record RefusesParts (refusal : Refusal) : Type 0 where
     pub fault : ReadFault
     pub cause : HasNoConversion parts.text fault
-    pub told : Tells (fault_line_at wanted.file entries (place_at parts.places (line_of fault)) fault) old new
+    pub line_is : told_line refusal ≡ fault_line_at wanted.file entries (place_at parts.places (line_of fault)) fault
 
-  -- either of these, or memory ran out
-  unfoldable pub ConvertsParts :
-      List Rule → Parts → (files now : Option Directory) → (status before after : ℕ)
-      → (err_old err_new out_old out_new : Option (List ℕ)) → Type 0
-  ConvertsParts rules parts files now status before after err_old err_new out_old out_new =
-      PrintsParts rules parts files now status before after err_old err_new out_old out_new
-      ⊎ ((status ≡ 1) × (after ≡ before) × KeepsFiles files now × Keeps out_old out_new
-      × (Tells memory_line err_old err_new ⊎ TellsOfParts parts err_old err_new))
+module _ (rules : List Rule) (advice : Advice) (wanted : ConvertWanted) (files : Option Directory)
+    (before : List PlacedNote) (text : List ℕ) where
+  -- with these files a text is converted to this, after what was told before
+  pub record IsConvertedTo (made : Conversion) : Type 0 where
+    pub entries : List Entry
+    pub notes : List PlacedNote
+    pub table : List ℕ
+    pub converts : Converts rules advice wanted files before text entries made.text.items notes table
+    pub told_is : made.told.items ≡ note_lines wanted.file entries notes
+    pub table_is : made.table.items ≡ table_if wanted.lines table
 
--- a module is printed as it is, and these are its notes
-abbrev pub PrintsModule :
-    ConvertWanted → List PlacedNote → (text : List ℕ) → (files now : Option Directory)
+module _ (advice : Advice) (wanted : ConvertWanted) (files : Option Directory) (told : List PlacedNote) (text : List ℕ) where
+  -- a file that the text includes can't be read, whose failure was counted, and this tells it
+  pub record RefusesInclude (before after : ℕ) (refusal : Refusal) : Type 0 where
+    pub counted : CountsFailure before after
+    pub stops : StopsIncluding advice wanted files told text refusal.file.items
+    pub line_is : told_line refusal ≡ file_line refusal.file.items
+
+  -- the text is too long, and this tells it
+  pub record RefusesLength (refusal : Refusal) : Type 0 where
+    pub long : LONGEST_SOURCE < length text
+    pub line_is : told_line refusal ≡ refusal_line (number_of TooLong) wanted.file 0
+
+  -- what is put together of the text has a fault, and this tells it
+  pub record RefusesSource (refusal : Refusal) : Type 0 where
+    pub entries : List Entry
+    pub parts : Parts
+    pub together : IsPutTogether advice wanted files told text entries parts
+    pub refuses : RefusesParts wanted entries parts refusal
+
+  -- one of these tells why the text is not converted
+  abbrev pub IsRefusedAs : (before after : ℕ) → Refusal → Type 0
+  IsRefusedAs before after refusal =
+      RefusesInclude before after refusal ⊎ ((after ≡ before) × (RefusesLength refusal ⊎ RefusesSource refusal))
+
+-- the text of a conversion was printed, and its notes were told, or not
+unfoldable pub PrintsTold : Conversion → (status : ℕ) → (err_old err_new out_old out_new : Option (List ℕ)) → Type 0
+PrintsTold made status err_old err_new out_old out_new =
+    ((status ≡ 0) × (made.told.items ≡ []) × Appends out_old out_new made.text.items)
+    ⊎ (((status ≡ 1) × (0 < length made.told.items) × Appends out_old out_new made.text.items
+    × AppendsBeginning err_old err_new made.told.items)
+    ⊎ ((status ≡ 1) × TellsUnwritten err_old err_new × AppendsBeginning out_old out_new made.text.items))
+
+-- This was done once the table was written that is wanted. Or the file of the table could not be written, or memory ran out
+-- by then.
+unfoldable pub PrintsTabled :
+    ConvertWanted → Conversion → (files now : Option Directory)
     → (status before after : ℕ) → (err_old err_new out_old out_new : Option (List ℕ)) → Type 0
-PrintsModule wanted notes text files now status before after err_old err_new out_old out_new =
-    PrintsConverted wanted [] (as_it_is notes text) [] text notes files now status before after
-    err_old err_new out_old out_new
+PrintsTabled wanted made files now status before after err_old err_new out_old out_new =
+    ((after ≡ before) × WritesTable wanted.lines files now made.table.items
+    × PrintsTold made status err_old err_new out_old out_new)
+    ⊎ (((status ≡ 1) × Keeps out_old out_new
+    × TellsFile (λ stop. (wanted.lines ≡ Some stop) × StopsWriting files now stop made.table.items) before after err_old err_new)
+    ⊎ ((status ≡ 1) × (after ≡ before) × BeginsTable wanted.lines files now made.table.items
+    × Tells memory_line err_old err_new × Keeps out_old out_new))
 
 -- what converting the text of the file of an order does, after what was told before
 unfoldable pub ConvertsHeld :
