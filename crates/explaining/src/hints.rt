@@ -187,17 +187,31 @@ fn hint_of_word(before: &Word, word: &Word) -> Option<Hint> {
     Some(Hint::Said(left_out?))
 }
 
-/// What is likely wrong at a word of a source, with the words before it, and what was open before the last one of these,
-/// the outermost first.
-pub(crate) fn hint_at(before: &[Word], word: &Word, open: &[Opener]) -> Option<Hint> {
+// What is likely wrong at the first word of a source.
+fn hint_of_first(word: &Word, next: Option<&Word>) -> Option<Hint> {
+    let is_before_colon = match next {
+        Some(next) => next.kind == Kind::Mark(Mark::Colon),
+        None => false,
+    };
+    match word.kind {
+        Kind::Name => None,
+        Kind::Number(_) if is_before_colon => Some(Hint::Said(
+            "The address of the code is no part of a module: delete it, and use --code",
+        )),
+        _ => Some(NO_MODULE),
+    }
+}
+
+/// What is likely wrong at a word of a source, with the words before it, the one after it, and what was open before the last
+/// one of those before it, the outermost first.
+pub(crate) fn hint_at(
+    before: &[Word],
+    word: &Word,
+    next: Option<&Word>,
+    open: &[Opener],
+) -> Option<Hint> {
     match before {
-        [] => match word.kind {
-            Kind::Number(_) => Some(Hint::Said(
-                "The address of the code is no part of a module: delete it, and use --code",
-            )),
-            Kind::Name => None,
-            _ => Some(NO_MODULE),
-        },
+        [] => hint_of_first(word, next),
         [_] | [_, _] => Some(NO_MODULE),
         [_, _, _, _, ..] if open.is_empty() => {
             Some(Hint::Said(cure_of(word.text).unwrap_or(

@@ -13,6 +13,7 @@ mod kinds;
 mod left_out;
 mod lengths;
 mod lines;
+mod listing;
 mod meanings;
 mod named;
 mod object_names;

@@ -6,6 +6,7 @@ use crate::hints::{Hint, hint_at};
 use crate::kinds::as_source;
 use crate::left_out::{cure_of, is_number_without_digit, is_same_name};
 use crate::lines::{show_line, show_place};
+use crate::listing::is_listing;
 use crate::named::{find_named, leaves_procedure};
 use crate::openers::{Opener, openers};
 use crate::origins::add_origins;
@@ -158,7 +159,8 @@ fn explain_word(page: &mut Page, refused: &Refused) {
         Some(word) => {
             let count = refused.before.len().saturating_sub(1);
             let open = refused.open_after(page, refused.before.get(..count).unwrap_or(&[]));
-            hint_at(refused.before, &word, open.as_slice())
+            let next = refused.after.get(1);
+            hint_at(refused.before, &word, next, open.as_slice())
         }
         None => None,
     };
@@ -340,6 +342,11 @@ fn explain_spelling(page: &mut Page, refused: &Refused) {
 
 // Adds why a text is refused.
 fn explain_fault(page: &mut Page, refused: &Refused, fault: &ReadFault) {
+    if refused.before.len() <= 2 && is_listing(refused.text) {
+        refused.show(page, refused.told.meaning);
+        page.sentence(&[Piece::Text("This is a listing: use plm convert --listing")]);
+        return;
+    }
     match fault {
         ReadFault::Words(_) => explain_spelling(page, refused),
         ReadFault::Expansion(fault) => refused.show_said(page, fault),
