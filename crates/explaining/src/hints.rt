@@ -1,23 +1,31 @@
 //! What is likely wrong at a word of a source that cannot stand where it stands.
 
 use crate::left_out::{cure_of, is_same_name};
+use crate::naming::awaited_after;
 use crate::openers::{Opened, Opener};
 use crate::page::{Page, Piece};
 use words::{Kind, Mark, ReservedWord, Word};
 
 /// What is likely wrong.
 #[derive(Clone, Copy)]
-pub(crate) enum Hint {
+pub(crate) enum Hint<'a> {
     /// The word of this line that comes before is not followed by what may have to come between.
-    Missing { what: &'static str, line: u32 },
+    Missing {
+        what: &'static str,
+        line: u32,
+    },
     /// A name stands after the END of a DO, which begins on this line.
-    NamedGroup { line: u32 },
+    NamedGroup {
+        line: u32,
+    },
+    /// This reserved word stands where a name is declared.
+    Reserved(&'a [u8]),
     /// What this sentence says.
     Said(&'static str),
 }
 
 // That the text does not begin as a module.
-const NO_MODULE: Hint = Hint::Said(
+const NO_MODULE: Hint<'static> = Hint::Said(
     "A source is one module: NAME: DO; before it, and END NAME; after it",
 );
 
@@ -118,7 +126,7 @@ fn is_call(words: &[Word]) -> bool {
 }
 
 // What is likely wrong at a word that may stand elsewhere, by itself and the word before it.
-fn hint_of_pair(before: &Word, word: &Word, open: &[Opener]) -> Option<Hint> {
+fn hint_of_pair(before: &Word, word: &Word, open: &[Opener]) -> Option<Hint<'static>> {
     match (before.kind, word.kind) {
         (_, Kind::Mark(Mark::AssignSign)) => Some(Hint::Said(
             "An assignment has =, and := stands only in parentheses in an expression",
@@ -153,7 +161,7 @@ fn hint_of_pair(before: &Word, word: &Word, open: &[Opener]) -> Option<Hint> {
 }
 
 // What is likely wrong at a word, by the words of its statement.
-fn hint_of_statement(before: &[Word], word: &Word) -> Option<Hint> {
+fn hint_of_statement(before: &[Word], word: &Word) -> Option<Hint<'static>> {
     match word.kind {
         Kind::Mark(Mark::Semicolon) if is_call(before) => Some(Hint::Said(
             "A statement that calls a procedure begins with CALL",
@@ -178,7 +186,7 @@ fn is_declared(words: &[Word], name: &[u8]) -> bool {
 }
 
 // What to write for a word, where it is one that is left out, or FOREVER comes before it.
-fn hint_of_word(before: &Word, word: &Word) -> Option<Hint> {
+fn hint_of_word(before: &Word, word: &Word) -> Option<Hint<'static>> {
     let left_out = if before.text.eq_ignore_ascii_case(b"FOREVER") {
         cure_of(word.text).or(cure_of(before.text))
     } else {
@@ -188,7 +196,7 @@ fn hint_of_word(before: &Word, word: &Word) -> Option<Hint> {
 }
 
 // What is likely wrong at the first word of a source.
-fn hint_of_first(word: &Word, next: Option<&Word>) -> Option<Hint> {
+fn hint_of_first<'a>(word: &Word<'a>, next: Option<&Word<'a>>) -> Option<Hint<'a>> {
     let is_before_colon = match next {
         Some(next) => next.kind == Kind::Mark(Mark::Colon),
         None => false,
@@ -198,18 +206,41 @@ fn hint_of_first(word: &Word, next: Option<&Word>) -> Option<Hint> {
         Kind::Number(_) if is_before_colon => Some(Hint::Said(
             "The address of the code is no part of a module: delete it, and use --code",
         )),
+        Kind::Reserved(_) if is_before_colon => Some(Hint::Reserved(word.text)),
         _ => Some(NO_MODULE),
+    }
+}
+
+// That a word is reserved, where a name is declared: before a colon, or in a declaration before what may follow a name.
+fn hint_of_reserved<'a>(
+    before: &[Word<'a>],
+    word: &Word<'a>,
+    next: Option<&Word<'a>>,
+) -> Option<Hint<'a>> {
+    let Kind::Reserved(reserved) = word.kind else {
+        return None;
+    };
+    let follows = match next?.kind {
+        Kind::Mark(Mark::Colon) => return Some(Hint::Reserved(word.text)),
+        Kind::Mark(Mark::LeftParenthesis) => !BEGINNING.contains(&reserved),
+        Kind::Mark(Mark::Comma | Mark::RightParenthesis) => true,
+        kind => DECLARING.contains(&kind),
+    };
+    if follows && awaited_after(before).is_some() {
+        Some(Hint::Reserved(word.text))
+    } else {
+        None
     }
 }
 
 /// What is likely wrong at a word of a source, with the words before it, the one after it, and what was open before the last
 /// one of those before it, the outermost first.
-pub(crate) fn hint_at(
-    before: &[Word],
-    word: &Word,
-    next: Option<&Word>,
+pub(crate) fn hint_at<'a>(
+    before: &[Word<'a>],
+    word: &Word<'a>,
+    next: Option<&Word<'a>>,
     open: &[Opener],
-) -> Option<Hint> {
+) -> Option<Hint<'a>> {
     match before {
         [] => hint_of_first(word, next),
         [_] | [_, _] => Some(NO_MODULE),
@@ -227,7 +258,9 @@ pub(crate) fn hint_at(
             line: last.line,
         }),
         [.., last] => {
-            let hint = hint_of_pair(last, word, open).or(hint_of_statement(before, word));
+            let hint = hint_of_reserved(before, word, next)
+                .or(hint_of_pair(last, word, open))
+                .or(hint_of_statement(before, word));
             if is_declared(before, word.text) {
                 hint
             } else {
@@ -237,7 +270,7 @@ pub(crate) fn hint_at(
     }
 }
 
-impl Hint {
+impl Hint<'_> {
     /// Adds it as a sentence.
     pub(crate) fn add(self, page: &mut Page) {
         match self {
@@ -250,6 +283,10 @@ impl Hint {
                 Piece::Text("This END ends the DO of line "),
                 Piece::Number(line),
                 Piece::Text(", and only modules and procedures have a name after END"),
+            ]),
+            Hint::Reserved(word) => page.sentence(&[
+                Piece::Shown(word),
+                Piece::Text(" is a reserved word: another name"),
             ]),
             Hint::Said(sentence) => page.sentence(&[Piece::Text(sentence)]),
         }

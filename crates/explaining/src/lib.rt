@@ -16,6 +16,7 @@ mod lines;
 mod listing;
 mod meanings;
 mod named;
+mod naming;
 mod object_names;
 mod openers;
 mod options;

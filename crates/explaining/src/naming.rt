@@ -1,0 +1,101 @@
+//! Where names are declared among the words of a source.
+
+use words::{Kind, Mark, ReservedWord, Word};
+
+/// What a name is declared as.
+#[derive(Clone, Copy, PartialEq, Eq)]
+pub(crate) enum Named {
+    /// A variable or a parameter.
+    Object,
+    /// A member of a structure.
+    Member,
+}
+
+// A list of names: what they are declared as, and how many parentheses are open around them.
+#[derive(Clone, Copy)]
+struct List {
+    named: Named,
+    depth: u32,
+}
+
+// What was seen of a statement: how many parentheses are open, the list of names that is not ended, what a name is declared as
+// that comes next, and the last word.
+#[derive(Clone, Copy)]
+struct Naming {
+    depth: u32,
+    list: Option<List>,
+    awaited: Option<Named>,
+    last: Kind,
+}
+
+impl Naming {
+    // A statement of which no word was seen.
+    fn new() -> Naming {
+        Naming {
+            depth: 0,
+            list: None,
+            awaited: None,
+            last: Kind::Mark(Mark::Semicolon),
+        }
+    }
+
+    // Takes in a parenthesis that opens. The answer is what a name after it is declared as.
+    fn open(&mut self) -> Option<Named> {
+        self.depth = self.depth.saturating_add(1);
+        let named = match self.last {
+            Kind::Reserved(ReservedWord::Structure) => Some(Named::Member),
+            Kind::Reserved(ReservedWord::Procedure) => Some(Named::Object),
+            _ => self.awaited,
+        };
+        if let Some(named) = named {
+            let depth = self.depth;
+            self.list = Some(List { named, depth });
+        }
+        named
+    }
+
+    // Takes in a parenthesis that closes: after a list of names comes the next of the statement.
+    fn close(&mut self) {
+        self.depth = self.depth.saturating_sub(1);
+        if let Some(list) = self.list
+            && list.depth > self.depth
+        {
+            let (named, depth) = (Named::Object, self.depth);
+            self.list = Some(List { named, depth });
+        }
+    }
+
+    // Takes in a word.
+    fn add(&mut self, kind: Kind) {
+        let mut awaited = None;
+        match kind {
+            Kind::Reserved(ReservedWord::Declare) => {
+                let (named, depth) = (Named::Object, self.depth);
+                self.list = Some(List { named, depth });
+                awaited = Some(named);
+            }
+            Kind::Mark(Mark::LeftParenthesis) => awaited = self.open(),
+            Kind::Mark(Mark::RightParenthesis) => self.close(),
+            Kind::Mark(Mark::Semicolon) => *self = Naming::new(),
+            Kind::Mark(Mark::Comma) => {
+                if let Some(list) = self.list
+                    && list.depth == self.depth
+                {
+                    awaited = Some(list.named);
+                }
+            }
+            _ => {}
+        }
+        self.awaited = awaited;
+        self.last = kind;
+    }
+}
+
+/// What a name is declared as that comes after words, if that is a place where a name is declared.
+pub(crate) fn awaited_after(words: &[Word]) -> Option<Named> {
+    let mut naming = Naming::new();
+    for word in words {
+        naming.add(word.kind);
+    }
+    naming.awaited
+}
