@@ -20,6 +20,12 @@ pub(crate) enum Hint<'a> {
     },
     /// This reserved word stands where a name is declared.
     Reserved(&'a [u8]),
+    /// BASED and its variable stand after the type, and not after the name.
+    LateBase {
+        name: &'a [u8],
+        base: &'a [u8],
+        type_word: &'a [u8],
+    },
     /// What this sentence says.
     Said(&'static str),
 }
@@ -69,6 +75,12 @@ const DECLARING: [Kind; 7] = [
     Kind::Reserved(ReservedWord::Literally),
     Kind::Reserved(ReservedWord::Structure),
     Kind::Reserved(ReservedWord::Label),
+];
+
+// The types of one word.
+const TYPES: [Kind; 2] = [
+    Kind::Reserved(ReservedWord::Address),
+    Kind::Reserved(ReservedWord::Byte),
 ];
 
 // Whether a semicolon is likely missing between two words: they are on two lines, the first may end a statement, and the second
@@ -233,6 +245,70 @@ fn hint_of_reserved<'a>(
     }
 }
 
+// Where BASED stands, if it comes after a type or a dimension.
+fn hint_of_based<'a>(
+    before: &[Word<'a>],
+    word: &Word<'a>,
+    next: Option<&Word<'a>>,
+) -> Option<Hint<'a>> {
+    if word.kind != Kind::Reserved(ReservedWord::Based) {
+        return None;
+    }
+    match (before, next) {
+        ([.., name, last], Some(base))
+            if TYPES.contains(&last.kind) && name.kind == Kind::Name && base.kind == Kind::Name => {
+            Some(Hint::LateBase {
+                name: name.text,
+                base: base.text,
+                type_word: last.text,
+            })
+        }
+        ([.., size, last], _)
+            if TYPES.contains(&last.kind)
+                || last.kind == Kind::Mark(Mark::RightParenthesis)
+                    && matches!(size.kind, Kind::Number(_)) => {
+            Some(Hint::Said(
+                "BASED stands after the name, and a dimension after its variable: X BASED P (10) BYTE",
+            ))
+        }
+        _ => None,
+    }
+}
+
+// Whether words begin with DO CASE, and each IF directly in it has its ELSE.
+fn is_case(words: &[Word]) -> bool {
+    let mut level = 0_u32;
+    let mut ifs = 0_u32;
+    for word in words {
+        match word.kind {
+            Kind::Reserved(ReservedWord::Do | ReservedWord::Procedure) => {
+                level = level.saturating_add(1);
+            }
+            Kind::Reserved(ReservedWord::End) => level = level.saturating_sub(1),
+            Kind::Reserved(ReservedWord::If) if level == 1 => ifs = ifs.saturating_add(1),
+            Kind::Reserved(ReservedWord::Else) if level == 1 => ifs = ifs.saturating_sub(1),
+            _ => {}
+        }
+    }
+    match words {
+        [_, second, ..] => ifs == 0 && second.kind == Kind::Reserved(ReservedWord::Case),
+        _ => false,
+    }
+}
+
+// That a DO CASE has no ELSE, if one stands directly in it.
+fn hint_of_else(before: &[Word], word: &Word, open: &[Opener]) -> Option<Hint<'static>> {
+    match (before, open) {
+        ([.., last], [.., opener])
+            if word.kind == Kind::Reserved(ReservedWord::Else)
+                && last.kind == Kind::Mark(Mark::Semicolon)
+                && is_case(before.get(opener.at..).unwrap_or(&[])) => {
+            Some(Hint::Said("A DO CASE has no ELSE"))
+        }
+        _ => None,
+    }
+}
+
 /// What is likely wrong at a word of a source, with the words before it, the one after it, and what was open before the last
 /// one of those before it, the outermost first.
 pub(crate) fn hint_at<'a>(
@@ -259,6 +335,8 @@ pub(crate) fn hint_at<'a>(
         }),
         [.., last] => {
             let hint = hint_of_reserved(before, word, next)
+                .or(hint_of_based(before, word, next))
+                .or(hint_of_else(before, word, open))
                 .or(hint_of_pair(last, word, open))
                 .or(hint_of_statement(before, word));
             if is_declared(before, word.text) {
@@ -287,6 +365,18 @@ impl Hint<'_> {
             Hint::Reserved(word) => page.sentence(&[
                 Piece::Shown(word),
                 Piece::Text(" is a reserved word: another name"),
+            ]),
+            Hint::LateBase {
+                name,
+                base,
+                type_word,
+            } => page.sentence(&[
+                Piece::Text("BASED stands after the name: "),
+                Piece::Shown(name),
+                Piece::Text(" BASED "),
+                Piece::Shown(base),
+                Piece::Text(" "),
+                Piece::Shown(type_word),
             ]),
             Hint::Said(sentence) => page.sentence(&[Piece::Text(sentence)]),
         }

@@ -13,12 +13,14 @@ pub(crate) enum Opened {
     Group,
 }
 
-/// A word that an END is to end: what it opens, the name of the module or the procedure, and its line.
+/// A word that an END is to end: what it opens, the name of the module or the procedure, its line, and how many words stand
+/// before it.
 #[derive(Clone, Copy)]
 pub(crate) struct Opener<'a> {
     pub(crate) opened: Opened,
     pub(crate) name: &'a [u8],
     pub(crate) line: u32,
+    pub(crate) at: usize,
 }
 
 impl Opener<'_> {
@@ -55,8 +57,13 @@ fn take_word<'a>(
         }
         _ => &[],
     };
-    let line = word.line;
-    open.push(Opener { opened, name, line })?;
+    let (line, at) = (word.line, before.len());
+    open.push(Opener {
+        opened,
+        name,
+        line,
+        at,
+    })?;
     Ok(())
 }
 
