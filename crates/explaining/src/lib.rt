@@ -26,6 +26,7 @@ mod parts;
 mod ranges;
 mod refused;
 mod sentences;
+mod spelling;
 mod told;
 
 pub use commands::run_command;

@@ -11,6 +11,7 @@ use crate::named::{find_named, leaves_procedure};
 use crate::openers::{Opener, openers};
 use crate::origins::add_origins;
 use crate::page::{MARGIN, Page, Piece};
+use crate::spelling::{ends_string_in_word, is_after_nested};
 use crate::told::Told;
 use host::Failure;
 use sources::{LONGEST_SOURCE, Place, ReadFault, read_source};
@@ -152,6 +153,20 @@ impl<'a> Refused<'_, 'a, '_, '_> {
     }
 }
 
+// What was not meant to end where it ends before the place at fault: a comment, or a string.
+fn hint_of_spelling(text: &[u8], place: usize) -> Option<Hint<'static>> {
+    let is_quote_there = matches!(text.get(place), Some(b'\''));
+    let is_quote_before = matches!(text.get(place.saturating_sub(1)), Some(b'\''));
+    let through = text.get(..=place.min(text.len().saturating_sub(1)));
+    if is_after_nested(text, place) {
+        Some(Hint::Said("Comments do not nest: the first */ ends the comment"))
+    } else if (is_quote_there || is_quote_before) && ends_string_in_word(through.unwrap_or(&[])) {
+        Some(Hint::Said("A quote in a string is written twice: ''"))
+    } else {
+        None
+    }
+}
+
 // Adds what is likely wrong at a word that cannot stand where it stands, below the line that comes before, if that is at
 // fault, and its own.
 fn explain_word(page: &mut Page, refused: &Refused) {
@@ -160,7 +175,12 @@ fn explain_word(page: &mut Page, refused: &Refused) {
             let count = refused.before.len().saturating_sub(1);
             let open = refused.open_after(page, refused.before.get(..count).unwrap_or(&[]));
             let next = refused.after.get(1);
-            hint_at(refused.before, &word, next, open.as_slice())
+            hint_of_spelling(refused.text, word.start as usize).or(hint_at(
+                refused.before,
+                &word,
+                next,
+                open.as_slice(),
+            ))
         }
         None => None,
     };
@@ -331,7 +351,11 @@ fn hint_of_byte(byte: u8, begins_line: bool) -> Option<&'static str> {
 // Adds what is wrong with the spelling of a word.
 fn explain_spelling(page: &mut Page, refused: &Refused) {
     refused.show(page, refused.told.meaning);
-    if refused.told.number == "C1"
+    if let Some(place) = refused.place
+        && let Some(hint) = hint_of_spelling(refused.text, place.start as usize)
+    {
+        hint.add(page);
+    } else if refused.told.number == "C1"
         && let Some(place) = refused.place
         && let Some(byte) = refused.text.get(place.start as usize)
         && let Some(hint) = hint_of_byte(*byte, begins_line(refused.text, place.start as usize))
