@@ -1,5 +1,6 @@
 //! Where names are declared among the words of a source.
 
+use crate::left_out::is_same_name;
 use words::{Kind, Mark, ReservedWord, Word};
 
 /// What a name is declared as.
@@ -98,4 +99,16 @@ pub(crate) fn awaited_after(words: &[Word]) -> Option<Named> {
         naming.add(word.kind);
     }
     naming.awaited
+}
+
+/// How many words stand before the first one that declares a variable or a parameter of a name.
+pub(crate) fn find_object(words: &[Word], name: &[u8]) -> Option<usize> {
+    let mut naming = Naming::new();
+    for (at, word) in words.iter().enumerate() {
+        if naming.awaited == Some(Named::Object) && is_same_name(word.text, name) {
+            return Some(at);
+        }
+        naming.add(word.kind);
+    }
+    None
 }

@@ -8,7 +8,8 @@ use crate::left_out::{cure_of, is_number_without_digit, is_same_name};
 use crate::lines::{show_line, show_place};
 use crate::listing::is_listing;
 use crate::named::{find_named, leaves_procedure};
-use crate::openers::{Opener, openers};
+use crate::naming::find_object;
+use crate::openers::{Opened, Opener, openers};
 use crate::origins::add_origins;
 use crate::page::{MARGIN, Page, Piece};
 use crate::spelling::{ends_string_in_word, is_after_nested};
@@ -261,6 +262,38 @@ fn add_ended(page: &mut Page, text: &[u8], open: &[Opener], name: &[u8]) {
     }
 }
 
+// Adds where a name is declared that is not known at the word at fault: in what is not open there, or below.
+fn explain_declared(page: &mut Page, refused: &Refused, at: usize) {
+    let (before, after) = refused.words.split_at(at.min(refused.words.len()));
+    let open = refused.open_after(page, before);
+    let here = refused.open_after(page, refused.before);
+    let ([.., around], [word, ..]) = (open.as_slice(), after) else {
+        return;
+    };
+    if here.iter().any(|it| it.at == around.at) {
+        if at > refused.before.len() {
+            page.sentence(&[
+                Piece::Text("It is declared below, in line "),
+                Piece::Number(word.line),
+            ]);
+            show_line(page, refused.text, word.line);
+        }
+        return;
+    }
+    let (line, of_line) = (Piece::Number(word.line), Piece::Number(around.line));
+    let (declared, within) = (Piece::Text("It is declared in line "), Piece::Text(", in "));
+    match around.opened {
+        Opened::Group => {
+            let of_do = Piece::Text(", in the DO of line ");
+            page.sentence(&[declared, line, of_do, of_line]);
+        }
+        Opened::Module | Opened::Procedure => {
+            page.sentence(&[declared, line, within, Piece::Shown(around.name)]);
+        }
+    }
+    show_line(page, refused.text, word.line);
+}
+
 // Adds what is likely meant by a name that is not known.
 fn explain_name(page: &mut Page, refused: &Refused) {
     if let Some(word) = refused.word() {
@@ -269,6 +302,10 @@ fn explain_name(page: &mut Page, refused: &Refused) {
                 Piece::Text("A number begins with a digit: 0"),
                 Piece::Shown(word.text),
             ]);
+        } else if !refused.is_member()
+            && let Some(at) = find_object(refused.words, word.text)
+        {
+            explain_declared(page, refused, at);
         } else if let Some(cure) = cure_of(word.text)
             && !refused.is_member()
         {
