@@ -112,3 +112,33 @@ pub(crate) fn find_object(words: &[Word], name: &[u8]) -> Option<usize> {
     }
     None
 }
+
+/// The last word that declares a name in a block, which begins with its DO or PROCEDURE: as what is wanted, or for an object
+/// also as a procedure or a label.
+pub(crate) fn find_in_block<'a>(
+    block: &[Word<'a>],
+    name: &[u8],
+    wanted: Named,
+) -> Option<Word<'a>> {
+    let mut naming = Naming::new();
+    let mut level = 0_u32;
+    let mut found = None;
+    for (at, word) in block.iter().enumerate() {
+        let is_named = match block.get(at.saturating_add(1)) {
+            Some(next) if next.kind == Kind::Mark(Mark::Colon) => wanted == Named::Object,
+            _ => naming.awaited == Some(wanted),
+        };
+        if is_named && level == 1 && is_same_name(word.text, name) {
+            found = Some(*word);
+        }
+        match word.kind {
+            Kind::Reserved(ReservedWord::Do | ReservedWord::Procedure) => {
+                level = level.saturating_add(1);
+            }
+            Kind::Reserved(ReservedWord::End) => level = level.saturating_sub(1),
+            _ => {}
+        }
+        naming.add(word.kind);
+    }
+    found
+}

@@ -8,7 +8,7 @@ use crate::left_out::{cure_of, is_number_without_digit, is_same_name};
 use crate::lines::{show_line, show_place};
 use crate::listing::is_listing;
 use crate::named::{find_named, leaves_procedure};
-use crate::naming::find_object;
+use crate::naming::{Named, awaited_after, find_in_block, find_object};
 use crate::openers::{Opened, Opener, openers};
 use crate::origins::add_origins;
 use crate::page::{MARGIN, Page, Piece};
@@ -294,6 +294,30 @@ fn explain_declared(page: &mut Page, refused: &Refused, at: usize) {
     show_line(page, refused.text, word.line);
 }
 
+// Adds where a name is declared before that is declared twice, and whether a $ alone makes the difference.
+fn explain_twice(page: &mut Page, refused: &Refused) {
+    let open = refused.open_after(page, refused.before);
+    let start = match open.as_slice() {
+        [.., last] => last.at,
+        [] => 0,
+    };
+    let block = refused.before.get(start..).unwrap_or(&[]);
+    let wanted = awaited_after(refused.before).unwrap_or(Named::Object);
+    if let Some(word) = refused.word()
+        && let Some(first) = find_in_block(block, word.text, wanted)
+    {
+        page.sentence(&[
+            Piece::Text("It is declared in line "),
+            Piece::Number(first.line),
+            Piece::Text(", too"),
+        ]);
+        show_line(page, refused.text, first.line);
+        if !first.text.eq_ignore_ascii_case(word.text) {
+            page.sentence(&[Piece::Text("A $ in a name is ignored")]);
+        }
+    }
+}
+
 // Adds what is likely meant by a name that is not known.
 fn explain_name(page: &mut Page, refused: &Refused) {
     if let Some(word) = refused.word() {
@@ -348,6 +372,7 @@ fn explain_typing(page: &mut Page, refused: &Refused, fault: &typing::Fault) {
     }
     match refused.told.number {
         "C11" => explain_name(page, refused),
+        "C12" => explain_twice(page, refused),
         "C20" => explain_label(page, refused),
         _ => {}
     }
