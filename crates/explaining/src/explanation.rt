@@ -9,6 +9,7 @@ use crate::page::{Page, Piece};
 use crate::ranges::{add_object, add_ranges};
 use crate::refused::explain_source;
 use crate::told::{Told, told_in};
+use crate::twice::add_named_twice;
 use std::alloc::Global;
 
 /// What is looked at beside the line of a fault: the words of the command line, the names of tables of lines, and the files
@@ -52,6 +53,7 @@ fn explain_program(page: &mut Page, seen: &Seen, told: Told) {
         [b'J', b'5'] => add_object(page, seen, told.place),
         [b'P', b'1'] => add_ranges(page, seen, true),
         [b'P', b'2'] => add_ranges(page, seen, false),
+        [b'J', b'2' | b'4'] | [b'L', b'1' | b'4'] => add_named_twice(page, seen),
         _ => {}
     }
 }

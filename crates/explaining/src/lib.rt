@@ -28,6 +28,7 @@ mod refused;
 mod sentences;
 mod spelling;
 mod told;
+mod twice;
 
 pub use commands::run_command;
 pub use console::run_words;
