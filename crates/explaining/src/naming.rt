@@ -30,7 +30,7 @@ struct Naming {
 }
 
 impl Naming {
-    // A statement of which no word was seen.
+    // What is known before the first word of a statement.
     fn new() -> Naming {
         Naming {
             depth: 0,

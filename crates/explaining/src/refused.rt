@@ -158,10 +158,9 @@ impl<'a> Refused<'_, 'a, '_, '_> {
 fn hint_of_spelling(text: &[u8], place: usize) -> Option<Hint<'static>> {
     let is_quote_there = matches!(text.get(place), Some(b'\''));
     let is_quote_before = matches!(text.get(place.saturating_sub(1)), Some(b'\''));
-    let through = text.get(..=place.min(text.len().saturating_sub(1)));
     if is_after_nested(text, place) {
         Some(Hint::Said("Comments do not nest: the first */ ends the comment"))
-    } else if (is_quote_there || is_quote_before) && ends_string_in_word(through.unwrap_or(&[])) {
+    } else if (is_quote_there || is_quote_before) && ends_string_in_word(text, place) {
         Some(Hint::Said("A quote in a string is written twice: ''"))
     } else {
         None

@@ -1,14 +1,18 @@
 //! Quotes and comments that end before they should.
 
-/// Whether a quote ends a string between two letters on the last line of a text.
-pub(crate) fn ends_string_in_word(text: &[u8]) -> bool {
+/// Whether a quote ends a string between two letters, on the line of a place and at most before the byte there, and another
+/// quote comes after it on that line.
+pub(crate) fn ends_string_in_word(text: &[u8], place: usize) -> bool {
     let mut is_open = false;
     let mut is_after_quote = false;
     let mut is_found = false;
     let mut before = b' ';
-    for byte in text {
-        is_found = is_found || (is_after_quote && byte.is_ascii_alphabetic());
+    for (at, byte) in text.iter().enumerate() {
+        is_found = is_found || (is_after_quote && at <= place && byte.is_ascii_alphabetic());
         is_after_quote = false;
+        if at >= place && (*byte == b'\'' || *byte == b'\n') {
+            return is_found && *byte == b'\'';
+        }
         if *byte == b'\n' {
             is_open = false;
             is_found = false;
@@ -18,7 +22,7 @@ pub(crate) fn ends_string_in_word(text: &[u8]) -> bool {
         }
         before = *byte;
     }
-    is_found
+    false
 }
 
 /// Whether the last comment before a place of a text holds the beginning of another, and the end of that comes at the place
