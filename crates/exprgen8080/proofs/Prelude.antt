@@ -1,8 +1,8 @@
 -- The names that the proofs of this crate cite, passed on from one place. Declares nothing.
 pub use Rattle.std.proofs.{Common.{Bool, Err, IfSome, List, None, Ok, OnOk, Option, Result, Some, [], ap, append-nil, append_assoc, arith, drop, false, if◌then◌else◌, inl, inr, is_some, length, nat_le, nat_lt, not, option_and_then, option_map, refl, rules, set, slice_get, slice_index_or, subst, suc, sym, take, true, unwrap_or, zero, ℕ, ◌%◌, ◌&&◌, ◌*◌, ◌++◌, ◌+◌, ◌-◌, ◌/◌, ◌<◌, ◌==◌, ◌||◌, ◌∙◌, ◌∷◌, ◌≡◌, ◌≤◌, ◌⊎◌}, lemmas.Bool.{ltb-true}, lemmas.List.{drop_all, drop_at, take_at}, lemmas.List.Folds.{list_any-append}, lemmas.Option.{none-some, same_Some}}
 pub use Rattle.trees.proofs.{Lists.{drop_found}}
-pub use Rattle.trees.specs.{declared.declaration.ScalarType.{ScalarType}, declared.declaration.ScalarType.TheVariants.{Address, Byte}, declared.expression.BinaryOperator.{BinaryOperator}, declared.expression.UnaryOperator.{UnaryOperator}, declared.expression.UnaryOperator.TheVariants.{Negate, Not}}
-pub use Rattle.typed_trees.specs.{declared.parts.ShiftFunction.{ShiftFunction}, declared.parts.ShiftFunction.TheVariants.{RotateLeft, RotateRight, ShiftLeft, ShiftRight}, declared.parts.UnaryFunction.TheVariants.{Double, High, Low}}
+pub use Rattle.trees.specs.{declared.declaration.ScalarType.{ScalarType}, declared.declaration.ScalarType.TheVariants.{Address, Byte}, declared.expression.BinaryOperator.{BinaryOperator}, declared.expression.UnaryOperator.{UnaryOperator}, declared.expression.UnaryOperator.TheVariants.{Negate, Not}, declared.functions.UnaryFunction.TheVariants.{Double, High, Low}}
+pub use Rattle.typed_trees.specs.{declared.parts.ShiftFunction.{ShiftFunction}, declared.parts.ShiftFunction.TheVariants.{RotateLeft, RotateRight, ShiftLeft, ShiftRight}}
 pub use Rattle.isa8080.specs.{declared.instr.Condition.{Condition}, declared.instr.Instr.{Instr}, declared.instr.Instr.TheVariants.{AccumulateImmediate, Dad, Dcr, Dcx, Inr, Inx, MovToMemory, Mvi, Rlc, Rrc}, declared.instr.Operand.TheVariants.{M, Of}, declared.instr.Operation.{Operation}, declared.instr.Operation.TheVariants.{Add, And, Compare, ExclusiveOr, Or, Subtract, SubtractWithBorrow}, declared.instr.Pair.TheVariants.{Bc, Hl}, declared.instr.Register.{Register}, declared.instr.Register.TheVariants.{A, B, D, H, L}}
 pub use Rattle.asm8080.specs.{declared.item.Item.{Item}, declared.item.WordForm.TheVariants.{CallTo, LoadA, LoadHl, StoreA, StoreHl}}
 pub use Rattle.treecode.specs.{internal.Homes.{location_after}, internal.Nodes.{entry_of, nodes_of}, internal.Queries.{argument, home, inside, place_number, source}, internal.Rising.{ArgumentsAreBelow, NumbersRise, PartsAreBelow, ReferenceIsBelow, SubscriptIsBelow, TargetIsBelow}, declared.expression.Expression.{Expression}, declared.expression.ExpressionForm.{ExpressionForm}, declared.expression.ExpressionNumber.{ExpressionNumber}, declared.lists.Range.{Range}, declared.module.TreeModule.{TreeModule}, declared.place.Location.{Location}, declared.place.Location.TheVariants.{Frame, Static}, declared.place.Place.{Place}, declared.place.Place.TheVariants.{Number}, declared.reference.Reference.{Reference}, declared.reference.Subscript.{Subscript}, declared.reference.Target.{Target}, declared.reference.Target.TheVariants.{Sent, Stored}}

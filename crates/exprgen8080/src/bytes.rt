@@ -14,8 +14,7 @@ use operands8080::plan_byte_in_memory;
 use std::alloc::AllocError;
 use steps8080::{Site, Steps, Task, copy, low};
 use treecode::{ExpressionForm, ExpressionNumber, Place, Range, Target};
-use trees::{ScalarType, UnaryOperator};
-use typed_trees::UnaryFunction;
+use trees::{ScalarType, UnaryFunction, UnaryOperator};
 
 // Puts the low byte of a known value into A.
 #[tactic(auto, unfolding(crate::specs::internal::Bytes::known_byte_steps))]

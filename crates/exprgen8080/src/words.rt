@@ -15,8 +15,7 @@ use operands8080::{plan_extended_byte_in_memory, plan_location_address, plan_wor
 use std::alloc::AllocError;
 use steps8080::{Site, Steps, Task, clear_a, copy, plan_extension, set, with_register};
 use treecode::{ExpressionForm, ExpressionNumber, Location};
-use trees::{ScalarType, UnaryOperator};
-use typed_trees::UnaryFunction;
+use trees::{ScalarType, UnaryFunction, UnaryOperator};
 
 // Replaces the word in HL by NOT or `-` of it.
 #[tactic(auto, unfolding(crate::specs::internal::Words::word_unary_steps))]

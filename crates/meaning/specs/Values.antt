@@ -9,8 +9,8 @@ use Rattle.trees.specs.declared.expression.UnaryOperator.{UnaryOperator}
 use Rattle.trees.specs.declared.expression.UnaryOperator.TheVariants.{Not, Negate}
 use Rattle.typed_trees.specs.declared.parts.ShiftFunction.{ShiftFunction}
 use Rattle.typed_trees.specs.declared.parts.ShiftFunction.TheVariants.{ShiftLeft, ShiftRight, RotateLeft, RotateRight}
-use Rattle.typed_trees.specs.declared.parts.UnaryFunction.{UnaryFunction}
-use Rattle.typed_trees.specs.declared.parts.UnaryFunction.TheVariants.{Low, High, Double}
+use Rattle.trees.specs.declared.functions.UnaryFunction.{UnaryFunction}
+use Rattle.trees.specs.declared.functions.UnaryFunction.TheVariants.{Low, High, Double}
 
 -- how many values a type has
 abbrev pub values_of : ScalarType → ℕ

@@ -3,8 +3,7 @@
 ghost use Rattle.std.specs.Prelude.{◌≡◌, ◌+◌, ◌-◌, ◌*◌, ◌%◌, ◌==◌, if◌then◌else◌, Some, None, ◌/◌};
 ghost use Rattle.meaning.specs.Values.{as_type, function_of, is_true, result_of, result_of_one, truth, values_of};
 
-use trees::{BinaryOperator, ScalarType, UnaryOperator};
-use typed_trees::UnaryFunction;
+use trees::{BinaryOperator, ScalarType, UnaryFunction, UnaryOperator};
 
 /// How many values a type has.
 #[inline(always)]

@@ -2,9 +2,9 @@
 pub use Rattle.std.proofs.{Common.{Any, Bool, IfSome, IsSomeAnd, List, None, Ok, Option, Some, [], ap, append_assoc, arith, drop, drop-cons, false, get_or, if◌then◌else◌, inl, inr, is_some, length, length-take, map, min, nat_eq, nat_le, nat_lt, not, option_and_then, option_map, refl, replicate, slice_get, subst, suc, sum_by, sym, take, true, true≢false, unwrap_or, zero, ℕ, ◌%◌, ◌&&◌, ◌*◌, ◌++◌, ◌+◌, ◌-◌, ◌/◌, ◌<◌, ◌==◌, ◌^◌, ◌||◌, ◌∙◌, ◌∷◌, ◌≡◌, ◌≤◌, ◌⊎◌}, lemmas.Bool.{cases_lt, eq-eqb, eqb-true, false≢true, leb-false, leb-true, lt-ltb, ltb-true, or_parts}, lemmas.List.Elements.{recursion_from_All}, lemmas.List.Sums.{sum_by-append, sum_by-cons}, lemmas.Option.{get_or_from_slice_get, none-some, same_Some, slice_get_cases, slice_get_within}}
 pub use Rattle.std.specs.{List.{AllByRecursion, cons_option, enumerate_from}, Option.{option_map_or}, Prelude.{All, filter_map}}
 pub use Rattle.trees.proofs.Lists.{holds_for_item}
-pub use Rattle.trees.specs.{declared.declaration.ScalarType.{ScalarType, TheVariants.{Address, Byte}}, declared.expression.BinaryOperator.{BinaryOperator}, declared.expression.UnaryOperator.{UnaryOperator, TheVariants.{Negate, Not}}}
+pub use Rattle.trees.specs.{declared.declaration.ScalarType.{ScalarType, TheVariants.{Address, Byte}}, declared.expression.BinaryOperator.{BinaryOperator}, declared.expression.UnaryOperator.{UnaryOperator, TheVariants.{Negate, Not}}, declared.functions.UnaryFunction.TheVariants.{Double, High, Low}}
 pub use Rattle.typed_trees.proofs.Counted.{types_count}
-pub use Rattle.typed_trees.specs.{Charge.{count_of_arguments, height_of, height_of_arguments, height_of_else, height_of_list, height_of_optional, height_of_reference, height_of_statement, height_of_statements, height_of_subscript, height_of_target, height_of_targets}, ExpressionTypes.{type_of}, Frames.{AreParameters, FramesFit, HasParameters, ParametersFit, home_of_parameters}, Jumps.{BodyIsSound, IsAmongLabels, IsNoLabel, JumpsAreSound, JumpsStay, JumpsStayInElse, JumpsStayInList, JumpsStayInStatements, LabelsOf, LabelsStand, ListStands, ListsStand, ListsStandInCases, ListsStandInElse, ListsStandInStatements, labels_of_list}, Sizes.{size_of_object}, Storable.{IsStorable, bytes_filled, constant_number, numbered_constant, object_in, size_of_value}, TypedTrees.{AssignmentStatement, BasedOn, CallStatement, CaseStatement, DoStatement, Elsewhere, GotoStatement, HaltStatement, Home as TypedHome, IfStatement, InConstants, InData, InFrame, IterateStatement, LabelStatement, MoreStatements, MoveStatement, NoStatements, NoSubscript, Nowhere, NullStatement, PartOf, Placed, ReturnStatement, SentTo, StoredIn, Subscript as TypedSubscript, TypedArguments, TypedElse, TypedExpression, TypedIteration, TypedList, TypedModule, TypedObject, TypedProcedure, TypedReference, TypedStatement, TypedStatements, TypedTarget, WhileStatement}, Weight.{constant_bytes, size_of_constant, weight_of_arguments, weight_of_else, weight_of_expression, weight_of_iteration, weight_of_list, weight_of_optional, weight_of_reference, weight_of_statement, weight_of_statements, weight_of_storing, weight_of_subscript, weight_of_target}, WellTyped.{IsReturned, IsWellTyped, Takes, TypesHold, TypesHoldIn, TypesHoldInArguments, TypesHoldInElse, TypesHoldInList, TypesHoldInProcedure, TypesHoldInReference, TypesHoldInStatements, TypesHoldInSubscript, TypesHoldInTarget, TypesHoldInTargets, Within, WithinMain, WithinProcedure, types_of}, declared.limits.TheConstants.{FRAME_LIMIT}, declared.parts.ConstantItem.{ConstantItem, TheVariants.{ConstantList, ConstantObject}}, declared.parts.InitialValue.{InitialValue, TheVariants.{ByteValue, LocationValue, WordValue}}, declared.parts.ShiftFunction.{ShiftFunction, TheVariants.{RotateLeft, RotateRight, ShiftLeft, ShiftRight}}, declared.parts.UnaryFunction.TheVariants.{Double, High, Low}}
+pub use Rattle.typed_trees.specs.{Charge.{count_of_arguments, height_of, height_of_arguments, height_of_else, height_of_list, height_of_optional, height_of_reference, height_of_statement, height_of_statements, height_of_subscript, height_of_target, height_of_targets}, ExpressionTypes.{type_of}, Frames.{AreParameters, FramesFit, HasParameters, ParametersFit, home_of_parameters}, Jumps.{BodyIsSound, IsAmongLabels, IsNoLabel, JumpsAreSound, JumpsStay, JumpsStayInElse, JumpsStayInList, JumpsStayInStatements, LabelsOf, LabelsStand, ListStands, ListsStand, ListsStandInCases, ListsStandInElse, ListsStandInStatements, labels_of_list}, Sizes.{size_of_object}, Storable.{IsStorable, bytes_filled, constant_number, numbered_constant, object_in, size_of_value}, TypedTrees.{AssignmentStatement, BasedOn, CallStatement, CaseStatement, DoStatement, Elsewhere, GotoStatement, HaltStatement, Home as TypedHome, IfStatement, InConstants, InData, InFrame, IterateStatement, LabelStatement, MoreStatements, MoveStatement, NoStatements, NoSubscript, Nowhere, NullStatement, PartOf, Placed, ReturnStatement, SentTo, StoredIn, Subscript as TypedSubscript, TypedArguments, TypedElse, TypedExpression, TypedIteration, TypedList, TypedModule, TypedObject, TypedProcedure, TypedReference, TypedStatement, TypedStatements, TypedTarget, WhileStatement}, Weight.{constant_bytes, size_of_constant, weight_of_arguments, weight_of_else, weight_of_expression, weight_of_iteration, weight_of_list, weight_of_optional, weight_of_reference, weight_of_statement, weight_of_statements, weight_of_storing, weight_of_subscript, weight_of_target}, WellTyped.{IsReturned, IsWellTyped, Takes, TypesHold, TypesHoldIn, TypesHoldInArguments, TypesHoldInElse, TypesHoldInList, TypesHoldInProcedure, TypesHoldInReference, TypesHoldInStatements, TypesHoldInSubscript, TypesHoldInTarget, TypesHoldInTargets, Within, WithinMain, WithinProcedure, types_of}, declared.limits.TheConstants.{FRAME_LIMIT}, declared.parts.ConstantItem.{ConstantItem, TheVariants.{ConstantList, ConstantObject}}, declared.parts.InitialValue.{InitialValue, TheVariants.{ByteValue, LocationValue, WordValue}}, declared.parts.ShiftFunction.{ShiftFunction, TheVariants.{RotateLeft, RotateRight, ShiftLeft, ShiftRight}}}
 unfoldable pub use Rattle.typed_trees.specs.{Charge.{charge_of}, Weight.{code_bound, weight_of}}
 pub use Rattle.layout.specs.Storage.{Storage, bytes_in_constants, bytes_in_data, data_bytes}
 unfoldable pub use Rattle.layout.specs.Storage.{storage_of}

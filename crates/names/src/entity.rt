@@ -1,5 +1,7 @@
 //! What names stand for.
 
+use trees::UnaryFunction;
+
 /// What a declaration makes a name stand for. Objects, procedures and labels are numbered from 0 each, in the order of
 /// the text; parameters are objects, numbered where DECLARE declares them. The labels of a list of statements follow
 /// each other, and are numbered before those of the lists within it.
@@ -18,9 +20,8 @@ pub enum Entity {
 pub enum BuiltIn {
     Input,
     Output,
-    Low,
-    High,
-    Double,
+    /// A function of one value.
+    Unary(UnaryFunction),
     Length,
     Last,
     Size,

@@ -21,7 +21,7 @@ use std::alloc::Global;
 use std::marker::Model;
 use std::mem;
 use symbols::NameSet;
-use trees::{Identifier, Name, Statement, next_number};
+use trees::{Identifier, Name, Statement, UnaryFunction, next_number};
 
 // What a name stands for in the last of these tables that has it.
 fn find(tables: &[Names], name: Name) -> Option<Entity>
@@ -248,9 +248,9 @@ fn built_in(name: &[u8]) -> Option<BuiltIn>
     match name {
         b"INPUT" => Some(BuiltIn::Input),
         b"OUTPUT" => Some(BuiltIn::Output),
-        b"LOW" => Some(BuiltIn::Low),
-        b"HIGH" => Some(BuiltIn::High),
-        b"DOUBLE" => Some(BuiltIn::Double),
+        b"LOW" => Some(BuiltIn::Unary(UnaryFunction::Low)),
+        b"HIGH" => Some(BuiltIn::Unary(UnaryFunction::High)),
+        b"DOUBLE" => Some(BuiltIn::Unary(UnaryFunction::Double)),
         b"LENGTH" => Some(BuiltIn::Length),
         b"LAST" => Some(BuiltIn::Last),
         b"SIZE" => Some(BuiltIn::Size),

@@ -12,8 +12,7 @@ use isa8080::{Condition, Instr};
 use std::alloc::AllocError;
 use steps8080::{Comparison, LabelNumber, Site, Steps, Task, relation_of};
 use treecode::{ExpressionForm, ExpressionNumber};
-use trees::{BinaryOperator, UnaryOperator};
-use typed_trees::UnaryFunction;
+use trees::{BinaryOperator, UnaryFunction, UnaryOperator};
 
 /// A jump to a label if a condition holds (`sense`), or if it does not.
 #[derive(Clone, Copy)]

@@ -8,7 +8,7 @@ use literally::expand;
 use names::{Binding, BuiltIn, Entity, bind};
 use std::alloc::Global;
 use syntax::parse;
-use trees::{Module, Name};
+use trees::{Module, Name, UnaryFunction};
 use words::{Kind, Mark, ReservedWord, Word};
 
 // The words of `M: DO;`, `A = 0AH;` and `END M;`, a line each: what they are, where they begin, and their lines.
@@ -77,7 +77,7 @@ const NAMES: &[u8] =
 // What its names are bound to, in the order of their uses.
 static BINDINGS: [Binding; 8] = [
     Binding::Declared(Entity::Object(0)),
-    Binding::BuiltInName(BuiltIn::Low),
+    Binding::BuiltInName(BuiltIn::Unary(UnaryFunction::Low)),
     Binding::Declared(Entity::Object(0)),
     Binding::Declared(Entity::Label(0)),
     Binding::Declared(Entity::Procedure(0)),

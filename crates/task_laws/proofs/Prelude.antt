@@ -7,8 +7,8 @@ pub use Rattle.mem80.proofs.{MemoryLemmas.{byte_small}, Numbers.{byte_is_low, hi
 pub use Rattle.mem80.specs.{Memory.{IsMemory, byte_at, word_at}, Range.{IsIn}, declared.memory.TheConstants.{MEMORY_SIZE}}
 pub use Rattle.ports.specs.{Events.{read_event, write_event}, Input.{IsScript, input_value, queue_of, reads_of}, declared.event.Event.{Event}}
 pub use Rattle.trees.proofs.Lists.{holds_for_item}
-pub use Rattle.trees.specs.{declared.declaration.ScalarType.{ScalarType, TheVariants.{Address, Byte}}, declared.expression.BinaryOperator.{BinaryOperator, TheVariants.{Divide, Greater, GreaterOrEqual, Less, LessOrEqual, Modulo, Multiply, Unequal, Xor}}, declared.expression.UnaryOperator.{UnaryOperator, TheVariants.{Negate, Not}}}
-pub use Rattle.typed_trees.specs.{Charge.{count_of_arguments, height_of, height_of_arguments, height_of_reference, height_of_subscript, height_of_target}, ExpressionTypes.{type_of, type_of_function, type_of_result, type_of_target}, Globals.{ListsGlobals}, Numbers.{NumbersFit, NumbersFitIfSome, NumbersFitIn, NumbersFitInArguments, NumbersFitInElse, NumbersFitInHead, NumbersFitInList, NumbersFitInModule, NumbersFitInProcedure, NumbersFitInReference, NumbersFitInStatements, NumbersFitInSubscript, NumbersFitInTarget, NumbersFitInTargets}, ObjectParts.{IsPartOf, IsScalar, IsScalarOf}, Sizes.{count_of, size_of_element, size_of_object, size_of_scalar}, TypedTrees.{AssignmentNode, AssignmentStatement, At, BasedOn, BinaryNode, CallNode, CallStatement, CaseStatement, ConversionNode, DoStatement, ElseStatement, Elsewhere, FunctionNode, GotoStatement, HaltStatement, Home as TypedHome, IfStatement, InConstants, InData, InFrame, InputNode, IterateStatement, LabelStatement, ListNode, ListOf, LocationNode, MoreArguments, MoreStatements, MoveStatement, NoArguments, NoElse, NoStatements, NoSubscript, Nowhere, NullStatement, NumberNode, ObjectType, PartOf, Placed, ReturnStatement, SentTo, ShiftNode, StoredIn, Subscript, TypedArguments, TypedElse, TypedExpression, TypedIteration, TypedList, TypedModule, TypedObject, TypedProcedure, TypedReference, TypedStatement, TypedStatements, TypedTarget, UnaryNode, ValueNode, WhileStatement}, WellTyped.{HasLocation, IsReturned, IsSeen, IsWellTyped, LiesFor, RefersToLocation, RefersToScalar, ShiftsIn, Takes, TypesHold, TypesHoldIn, TypesHoldInArguments, TypesHoldInElse, TypesHoldInHead, TypesHoldInList, TypesHoldInProcedure, TypesHoldInReference, TypesHoldInStatements, TypesHoldInSubscript, TypesHoldInTarget, TypesHoldInTargets, Within, WithinMain, WithinProcedure, WorksOn, types_of}, declared.parts.AtAddress.TheVariants.{AtNumber, AtObject}, declared.parts.ShiftFunction.{ShiftFunction, TheVariants.{RotateLeft, RotateRight, ShiftLeft, ShiftRight}}, declared.parts.UnaryFunction.{UnaryFunction, TheVariants.{Double, High, Low}}, declared.parts.Visibility.{Visibility}}
+pub use Rattle.trees.specs.{declared.declaration.ScalarType.{ScalarType, TheVariants.{Address, Byte}}, declared.expression.BinaryOperator.{BinaryOperator, TheVariants.{Divide, Greater, GreaterOrEqual, Less, LessOrEqual, Modulo, Multiply, Unequal, Xor}}, declared.expression.UnaryOperator.{UnaryOperator, TheVariants.{Negate, Not}}, declared.functions.UnaryFunction.{UnaryFunction, TheVariants.{Double, High, Low}}, Functions.{type_of_function}}
+pub use Rattle.typed_trees.specs.{Charge.{count_of_arguments, height_of, height_of_arguments, height_of_reference, height_of_subscript, height_of_target}, ExpressionTypes.{type_of, type_of_result, type_of_target}, Globals.{ListsGlobals}, Numbers.{NumbersFit, NumbersFitIfSome, NumbersFitIn, NumbersFitInArguments, NumbersFitInElse, NumbersFitInHead, NumbersFitInList, NumbersFitInModule, NumbersFitInProcedure, NumbersFitInReference, NumbersFitInStatements, NumbersFitInSubscript, NumbersFitInTarget, NumbersFitInTargets}, ObjectParts.{IsPartOf, IsScalar, IsScalarOf}, Sizes.{count_of, size_of_element, size_of_object, size_of_scalar}, TypedTrees.{AssignmentNode, AssignmentStatement, At, BasedOn, BinaryNode, CallNode, CallStatement, CaseStatement, ConversionNode, DoStatement, ElseStatement, Elsewhere, FunctionNode, GotoStatement, HaltStatement, Home as TypedHome, IfStatement, InConstants, InData, InFrame, InputNode, IterateStatement, LabelStatement, ListNode, ListOf, LocationNode, MoreArguments, MoreStatements, MoveStatement, NoArguments, NoElse, NoStatements, NoSubscript, Nowhere, NullStatement, NumberNode, ObjectType, PartOf, Placed, ReturnStatement, SentTo, ShiftNode, StoredIn, Subscript, TypedArguments, TypedElse, TypedExpression, TypedIteration, TypedList, TypedModule, TypedObject, TypedProcedure, TypedReference, TypedStatement, TypedStatements, TypedTarget, UnaryNode, ValueNode, WhileStatement}, WellTyped.{HasLocation, IsReturned, IsSeen, IsWellTyped, LiesFor, RefersToLocation, RefersToScalar, ShiftsIn, Takes, TypesHold, TypesHoldIn, TypesHoldInArguments, TypesHoldInElse, TypesHoldInHead, TypesHoldInList, TypesHoldInProcedure, TypesHoldInReference, TypesHoldInStatements, TypesHoldInSubscript, TypesHoldInTarget, TypesHoldInTargets, Within, WithinMain, WithinProcedure, WorksOn, types_of}, declared.parts.AtAddress.TheVariants.{AtNumber, AtObject}, declared.parts.ShiftFunction.{ShiftFunction, TheVariants.{RotateLeft, RotateRight, ShiftLeft, ShiftRight}}, declared.parts.Visibility.{Visibility}}
 unfoldable pub use Rattle.typed_trees.specs.Charge.{charge_of}
 pub use Rattle.layout.specs.{Joined.{DeclaredProcedure, InProgram, IsJoined, is_public_procedure, procedure_meant}, Placement.{ModulePlacement}, Storage.{Storage}}
 pub use Rattle.meaning.proofs.Powers.{left_far_number}

@@ -13,7 +13,7 @@ use Rattle.typed_trees.specs.declared.parts.GlobalItem.{GlobalItem}
 use Rattle.typed_trees.specs.declared.parts.GlobalItem.TheVariants.{GlobalObject, GlobalProcedure}
 use Rattle.typed_trees.specs.declared.parts.InitialValue.{InitialValue}
 use Rattle.typed_trees.specs.declared.parts.InitialValue.TheVariants.{ByteValue, LocationValue, WordValue}
-use Rattle.typed_trees.specs.declared.parts.UnaryFunction.TheVariants.{Double}
+use Rattle.trees.specs.declared.functions.UnaryFunction.TheVariants.{Double}
 use Rattle.typed_trees.specs.declared.parts.Visibility.{Visibility}
 use Rattle.typed_trees.specs.declared.parts.Visibility.TheVariants as visibilities
 use Rattle.layout.specs.declared.slot.Segment.TheVariants as segments

@@ -3,8 +3,8 @@ pub use Rattle.std.proofs.{Common.{Any, Bool, Err, Global, IfOk, List, None, Ok,
 pub use Rattle.std.specs.{List.{cons_option, enumerate_from}, Option.{option_and_then, option_map_or}, Prelude.{Vec, sum_by, vec_items}}
 pub use Rattle.mem80.proofs.{Lists.{got_before, take_whole}, Numbers.{sum_turned}, Results.{if_ok_then}}
 pub use Rattle.trees.proofs.Lists.{any_later, drop_item, got_first}
-pub use Rattle.trees.specs.{declared.declaration.ScalarType.{ScalarType, TheVariants.{Address, Byte}}, declared.expression.BinaryOperator.{BinaryOperator}, declared.expression.UnaryOperator.{UnaryOperator}}
-pub use Rattle.typed_trees.specs.{Charge.{count_of_arguments, height_of, height_of_arguments as height_of_trees, height_of_else, height_of_iteration, height_of_list, height_of_optional, height_of_reference as height_of_part, height_of_statement, height_of_statements, height_of_subscript as height_of_index, height_of_target as height_of_goal, height_of_targets}, ExpressionTypes.{type_of, type_of_function, type_of_result}, Jumps.{BodyIsSound, IsAmongLabels, IsNoLabel, JumpsStay, JumpsStayInElse, JumpsStayInList, JumpsStayInStatements, LabelsOf, LabelsStand, ListStands, ListsStand, ListsStandInCases, ListsStandInElse, ListsStandInStatements, labels_of_list}, TypedTrees.{AssignmentNode, AssignmentStatement, At, BasedOn, BinaryNode, CallNode, CallStatement, CaseStatement, ConversionNode, DoStatement, ElseStatement, Elsewhere, FunctionNode, GotoStatement, HaltStatement, Home as TypedHome, IfStatement, InConstants, InData, InFrame, InputNode, IterateStatement, LabelStatement, ListNode, ListOf, LocationNode, MoreArguments, MoreStatements, MoveStatement, NoArguments, NoElse, NoStatements, NoSubscript, Nowhere, NullStatement, NumberNode, PartOf, Placed, ReturnStatement, SentTo, ShiftNode, StoredIn, Subscript, TypedArguments, TypedElse, TypedExpression, TypedIteration, TypedList, TypedModule, TypedObject, TypedProcedure, TypedReference, TypedStatement, TypedStatements, TypedTarget, UnaryNode, ValueNode, WhileStatement}, Views.{arguments_view, expression_view, iteration_view, list_view, module_view, object_view, procedure_view, statement_view, statements_view, target_view}, declared.module.TypedObject.{TypedObject as Object}, declared.module.TypedProcedure.{TypedProcedure as Procedure}, declared.parts.AtAddress.TheVariants.{AtNumber, AtObject}, declared.parts.GlobalItem.{GlobalItem, TheVariants.{GlobalObject, GlobalProcedure}}, declared.parts.ShiftFunction.{ShiftFunction, TheVariants.{RotateLeft, RotateRight, ShiftLeft, ShiftRight}}, declared.parts.UnaryFunction.{UnaryFunction, TheVariants.{Double, High, Low}}, declared.statement.TypedStatement.{the_lemmas}}
+pub use Rattle.trees.specs.{declared.declaration.ScalarType.{ScalarType, TheVariants.{Address, Byte}}, declared.expression.BinaryOperator.{BinaryOperator}, declared.expression.UnaryOperator.{UnaryOperator}, declared.functions.UnaryFunction.{UnaryFunction, TheVariants.{Double, High, Low}}, Functions.{type_of_function}}
+pub use Rattle.typed_trees.specs.{Charge.{count_of_arguments, height_of, height_of_arguments as height_of_trees, height_of_else, height_of_iteration, height_of_list, height_of_optional, height_of_reference as height_of_part, height_of_statement, height_of_statements, height_of_subscript as height_of_index, height_of_target as height_of_goal, height_of_targets}, ExpressionTypes.{type_of, type_of_result}, Jumps.{BodyIsSound, IsAmongLabels, IsNoLabel, JumpsStay, JumpsStayInElse, JumpsStayInList, JumpsStayInStatements, LabelsOf, LabelsStand, ListStands, ListsStand, ListsStandInCases, ListsStandInElse, ListsStandInStatements, labels_of_list}, TypedTrees.{AssignmentNode, AssignmentStatement, At, BasedOn, BinaryNode, CallNode, CallStatement, CaseStatement, ConversionNode, DoStatement, ElseStatement, Elsewhere, FunctionNode, GotoStatement, HaltStatement, Home as TypedHome, IfStatement, InConstants, InData, InFrame, InputNode, IterateStatement, LabelStatement, ListNode, ListOf, LocationNode, MoreArguments, MoreStatements, MoveStatement, NoArguments, NoElse, NoStatements, NoSubscript, Nowhere, NullStatement, NumberNode, PartOf, Placed, ReturnStatement, SentTo, ShiftNode, StoredIn, Subscript, TypedArguments, TypedElse, TypedExpression, TypedIteration, TypedList, TypedModule, TypedObject, TypedProcedure, TypedReference, TypedStatement, TypedStatements, TypedTarget, UnaryNode, ValueNode, WhileStatement}, Views.{arguments_view, expression_view, iteration_view, list_view, module_view, object_view, procedure_view, statement_view, statements_view, target_view}, declared.module.TypedObject.{TypedObject as Object}, declared.module.TypedProcedure.{TypedProcedure as Procedure}, declared.parts.AtAddress.TheVariants.{AtNumber, AtObject}, declared.parts.GlobalItem.{GlobalItem, TheVariants.{GlobalObject, GlobalProcedure}}, declared.parts.ShiftFunction.{ShiftFunction, TheVariants.{RotateLeft, RotateRight, ShiftLeft, ShiftRight}}, declared.statement.TypedStatement.{the_lemmas}}
 pub use Rattle.layout.specs.{Storage.{Storage}, Views.{layout_view}}
 pub use Rattle.meaning.specs.{Access.{Surroundings, home_of}, Meaning.{Displacement, Later, address_in_memory, based_place, computed, displaced, displacement, located, no_displacement, value}, Outcomes.{Gave, Outcome, State, then_do}, Values.{as_type, function_of, result_of, result_of_one, shifted}}
 pub use Rattle.treecode.specs.internal.Contents.{constants_from, content_of, public_item, size_of_value, variables_from, with_gap}

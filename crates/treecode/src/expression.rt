@@ -5,8 +5,8 @@ ghost use Rattle.std.specs.Prelude.{◌≡◌};
 use crate::lists::Range;
 use crate::reference::{Reference, Target};
 use crate::traits::Traits;
-use trees::{BinaryOperator, ScalarType, UnaryOperator};
-use typed_trees::{ShiftFunction, UnaryFunction};
+use trees::{BinaryOperator, ScalarType, UnaryFunction, UnaryOperator};
+use typed_trees::ShiftFunction;
 
 /// The number of an expression in its module. Each part of an expression has a lower number than the whole.
 #[derive(Clone, Copy)]

@@ -9,8 +9,8 @@ use crate::known::place_of;
 use crate::memory::memory_of;
 use crate::module::TreeModule;
 use crate::place::Place;
-use trees::{BinaryOperator, ScalarType};
-use typed_trees::{ShiftFunction, UnaryFunction};
+use trees::{BinaryOperator, ScalarType, UnaryFunction};
+use typed_trees::ShiftFunction;
 
 // Whether the low byte of an expression of this form is in memory at a known place.
 fn is_direct(tree: &TreeModule, form: &ExpressionForm) -> bool

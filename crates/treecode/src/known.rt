@@ -11,8 +11,7 @@ use crate::module::TreeModule;
 use crate::place::{Home, Place};
 use crate::reference::{Reference, Subscript};
 use meaning::{binary, convert, shift, unary, unary_function};
-use trees::{BinaryOperator, ScalarType};
-use typed_trees::UnaryFunction;
+use trees::{BinaryOperator, ScalarType, UnaryFunction};
 
 /// The number of bytes that a subscript, if there is one, adds to an address, modulo 65536, if known.
 pub(crate) fn known_distance(tree: &TreeModule, subscript: Option<Subscript>) -> Option<u16>

@@ -7,8 +7,7 @@ ghost use Rattle.treecode.specs.internal.Traits.{high_in_memory, memory_of_form,
 use crate::expression::{ExpressionForm, ExpressionNumber};
 use crate::module::TreeModule;
 use crate::reference::Reference;
-use trees::ScalarType;
-use typed_trees::UnaryFunction;
+use trees::{ScalarType, UnaryFunction};
 
 // The form inside LOW, DOUBLE or a conversion, which has the same low byte; else the form itself.
 fn same_low_byte(tree: &TreeModule, form: ExpressionForm) -> ExpressionForm

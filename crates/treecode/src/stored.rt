@@ -11,8 +11,8 @@ use crate::place::Place;
 use crate::reference::{Reference, Subscript, Target};
 use crate::traits::{Keeps, Traits};
 use std::marker::Model;
-use trees::{BinaryOperator, ScalarType, UnaryOperator};
-use typed_trees::{ShiftFunction, UnaryFunction};
+use trees::{BinaryOperator, ScalarType, UnaryFunction, UnaryOperator};
+use typed_trees::ShiftFunction;
 
 /// A subscript, if any.
 #[derive(Clone, Copy)]

@@ -1,3 +1,4 @@
 pub use Rattle.symbols.proofs.Keys
 pub mod Lists
 pub mod Views
+pub mod TakenBytes

@@ -3,6 +3,7 @@
 
 mod declaration;
 mod expression;
+mod functions;
 mod identifier;
 mod module;
 mod numbers;
@@ -13,6 +14,7 @@ pub use declaration::{
     Restricted, ScalarType, Sign, Storage, Subject, ValueList,
 };
 pub use expression::{BinaryOperator, Expression, Reference, Selector, UnaryOperator};
+pub use functions::{ByteOfValue, UnaryFunction};
 pub use identifier::{Constant, Identifier, Number, Place, StringLiteral};
 pub use module::Module;
 pub use numbers::next_number;

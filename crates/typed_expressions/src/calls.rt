@@ -19,8 +19,8 @@ use crate::references::{number_of_arguments, port_of};
 use failure::Failure;
 use names::BuiltIn;
 use std::alloc::{AllocError, Global};
-use trees::{Expression, Place, Reference, ScalarType};
-use typed_trees::{Measure, ShiftFunction, TypedExpression, TypedProcedure, UnaryFunction};
+use trees::{Expression, Place, Reference, ScalarType, UnaryFunction};
+use typed_trees::{Measure, ShiftFunction, TypedExpression, TypedProcedure};
 use typing::{Cause, Fault};
 
 // A value as one of a type, if one is given.
@@ -120,7 +120,7 @@ impl Known {
         Ok(expression_nodes::call(number, scalar, typed))
     }
 
-    // LOW, HIGH and DOUBLE of one value.
+    // A built-in function of one value.
     #[cycle(expression)]
     fn unary_function(
         &self,
@@ -211,9 +211,7 @@ impl Known {
     {
         match built_in {
             BuiltIn::Input => self.input_value(reference, constants),
-            BuiltIn::Low => self.unary_function(reference, UnaryFunction::Low, constants),
-            BuiltIn::High => self.unary_function(reference, UnaryFunction::High, constants),
-            BuiltIn::Double => self.unary_function(reference, UnaryFunction::Double, constants),
+            BuiltIn::Unary(function) => self.unary_function(reference, function, constants),
             BuiltIn::Length => self.number_of_variable(reference, Measure::Length, constants),
             BuiltIn::Last => self.number_of_variable(reference, Measure::Last, constants),
             BuiltIn::Size => self.number_of_variable(reference, Measure::Size, constants),

@@ -13,9 +13,9 @@ ghost use Rattle.typing.specs.internal.Results.{Answers};
 use crate::known::Destination;
 use failure::Failure;
 use std::alloc::{AllocError, Global};
-use trees::{BinaryOperator, ScalarType, UnaryOperator};
+use trees::{BinaryOperator, ScalarType, UnaryFunction, UnaryOperator};
 use typed_trees::{
-    NumberOrigin, ShiftFunction, TypedExpression, TypedReference, TypedTarget, UnaryFunction, Word,
+    NumberOrigin, ShiftFunction, TypedExpression, TypedReference, TypedTarget, Word,
 };
 use typing::Fault;
 

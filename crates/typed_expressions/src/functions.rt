@@ -17,10 +17,8 @@ use crate::references::only;
 use failure::Failure;
 use names::{Binding, Entity};
 use std::alloc::Global;
-use trees::{Expression, Identifier, Place, Reference, Selector};
-use typed_trees::{
-    Measure, NumberOrigin, ShiftFunction, TypedExpression, TypedObject, UnaryFunction,
-};
+use trees::{Expression, Identifier, Place, Reference, Selector, UnaryFunction};
+use typed_trees::{Measure, NumberOrigin, ShiftFunction, TypedExpression, TypedObject};
 use typing::{Cause, Fault};
 
 // What LENGTH, LAST and SIZE measure: an object, or a member of it.

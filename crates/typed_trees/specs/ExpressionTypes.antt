@@ -3,8 +3,7 @@ use Rattle.trees.specs.declared.declaration.ScalarType.{ScalarType}
 use Rattle.trees.specs.declared.declaration.ScalarType.TheVariants.{Byte, Address}
 use Rattle.trees.specs.declared.expression.BinaryOperator.{BinaryOperator}
 use Rattle.trees.specs.declared.expression.BinaryOperator.TheVariants.{Equal, Less, Greater, LessOrEqual, GreaterOrEqual, Unequal}
-use Rattle.typed_trees.specs.declared.parts.UnaryFunction.{UnaryFunction}
-use Rattle.typed_trees.specs.declared.parts.UnaryFunction.TheVariants.{Low, High, Double}
+use Rattle.trees.specs.Functions.{type_of_function}
 use Rattle.typed_trees.specs.TypedTrees.{TypedExpression, NumberNode, ValueNode, LocationNode, ListNode, ConversionNode, AssignmentNode, UnaryNode, BinaryNode, CallNode, FunctionNode, ShiftNode, InputNode, TypedTarget, StoredIn, SentTo}
 
 -- the type of the value that goes to a target
@@ -21,12 +20,6 @@ type_of_result LessOrEqual operands = Byte
 type_of_result GreaterOrEqual operands = Byte
 type_of_result Unequal operands = Byte
 type_of_result operator operands = operands
-
--- LOW and HIGH give a BYTE, DOUBLE an ADDRESS
-abbrev pub type_of_function : UnaryFunction → ScalarType
-type_of_function Low = Byte
-type_of_function High = Byte
-type_of_function Double = Address
 
 -- the type of an expression, which its first node gives
 abbrev pub type_of : TypedExpression → ScalarType

@@ -1,9 +1,9 @@
 //! Typed expressions: names resolved, each with its type, each conversion written out. Objects, procedures and constant
 //! lists are named by their numbers in the tables of the module.
 
-use crate::parts::{NumberOrigin, ShiftFunction, UnaryFunction};
+use crate::parts::{NumberOrigin, ShiftFunction};
 use crate::word::Word;
-use trees::{BinaryOperator, ScalarType, UnaryOperator};
+use trees::{BinaryOperator, ScalarType, UnaryFunction, UnaryOperator};
 
 /// An expression.
 #[cycle(expression)]

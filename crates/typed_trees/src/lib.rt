@@ -17,7 +17,7 @@ pub use members::{FoundMember, Members};
 pub use module::{Home, ObjectType, Typed, TypedObject, TypedProcedure};
 pub use parts::{
     AtAddress, ConstantItem, GlobalItem, InitialValue, Measure, NumberOrigin, ShiftFunction,
-    TypedMember, UnaryFunction, Visibility,
+    TypedMember, Visibility,
 };
 pub use statement::{
     TypedAssignment, TypedCase, TypedIf, TypedIterate, TypedIteration, TypedList, TypedMove,

@@ -2,17 +2,6 @@
 
 use trees::{Name, ScalarType};
 
-/// The built-in functions of one value.
-#[derive(Clone, Copy)]
-pub enum UnaryFunction {
-    /// The low byte.
-    Low,
-    /// The high byte; 0 of a BYTE.
-    High,
-    /// The value as an ADDRESS.
-    Double,
-}
-
 /// The built-in functions that move the bits of a value by a count.
 #[derive(Clone, Copy)]
 pub enum ShiftFunction {
@@ -99,21 +88,6 @@ pub enum ConstantItem {
 pub enum GlobalItem {
     GlobalObject(u32),
     GlobalProcedure(u32),
-}
-
-impl UnaryFunction {
-    ghost use Rattle.std.specs.Prelude.{◌≡◌};
-    ghost use Rattle.typed_trees.specs.ExpressionTypes.{type_of_function};
-
-    /// The type of its result.
-    pub fn scalar(&self) -> ScalarType
-        ensures { result ≡ type_of_function self.now }
-    {
-        match self {
-            UnaryFunction::Low | UnaryFunction::High => ScalarType::Byte,
-            UnaryFunction::Double => ScalarType::Address,
-        }
-    }
 }
 
 impl TypedMember {

@@ -1,5 +1,5 @@
 -- What names in the text are bound to, as against the names in the tables.
-use Rattle.typing.proofs.Prelude.{◌≡◌, ℕ, List, [], Option, Some, None, refl, unwrap_or, slice_get, codes, option_or, option_map, Identifier, Binding, Declared, BuiltInName, BuiltIn, Entity, Object, Procedure, binding_of, built_in_of, built_ins, Here, entity_of, TypedObject, TypedModule, UnknownName, Known, place_of, bound, object_of, procedure_of, members_of, Agrees, procedure_name, object_name, members_of_object}
+use Rattle.typing.proofs.Prelude.{◌≡◌, ℕ, List, [], Option, Some, None, refl, unwrap_or, slice_get, codes, option_or, option_map, Identifier, Binding, Declared, BuiltInName, BuiltIn, Entity, Object, Procedure, binding_of, built_in_of, built_ins, Here, entity_of, TypedObject, TypedModule, UnknownName, Known, place_of, bound, object_of, procedure_of, members_of, Agrees, procedure_name, object_name, members_of_object, function_name}
 use Rattle.names.specs.declared.entity.BuiltIn.TheVariants as built_in_names
 use Rattle.typing.proofs.Kept.{Gives, then_more, is_found}
 use Rattle.typing.proofs.Tables.{names_known}
@@ -8,9 +8,7 @@ use Rattle.typing.proofs.Tables.{names_known}
 abbrev pub spelled : BuiltIn → List ℕ
 spelled built_in_names.Input = codes "INPUT"
 spelled built_in_names.Output = codes "OUTPUT"
-spelled built_in_names.Low = codes "LOW"
-spelled built_in_names.High = codes "HIGH"
-spelled built_in_names.Double = codes "DOUBLE"
+spelled (built_in_names.Unary function) = function_name function
 spelled built_in_names.Length = codes "LENGTH"
 spelled built_in_names.Last = codes "LAST"
 spelled built_in_names.Size = codes "SIZE"

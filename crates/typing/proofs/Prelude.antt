@@ -5,10 +5,10 @@ pub use Rattle.std.proofs.{Common.{Bool, Err, List, None, Ok, Option, Result, So
 pub use Rattle.std.specs.{List.{AllByRecursion, cons_option, enumerate_from, flat_map, list_any, repeat}, Map.{lookup}, Option.{option_map, option_map_or, option_or}, Prelude.{All, AllPairs, Any, Contains, IfOk, IfSome, IsSomeAnd, codes, filter_map, is_none, is_some, nat_lt, not, ◌&&◌, ◌||◌}, Str.{bytes_eq}}
 pub use Rattle.failure.specs.declared.Failure.{Failure}
 pub use Rattle.trees.proofs.Lists.{any_later, drop_item, got_first, some_and}
-pub use Rattle.trees.specs.{Trees.{ArgumentTrees, AssignmentNode, AssignmentStatement, AtTree, BinaryNode, CallStatement, CaseStatement, ConstantLeaf, ConstantOrigin, ConstantTree, DeclarationTree, DeclarationTrees, DeclareTree, DoStatement, ElementTree, ElseStatement, ElseTree, ExpressionTree, GotoStatement, GroupSubject, HaltStatement, HeadingTree, IfStatement, ItemElement, ItemTree, ItemTypeTree, IterateStatement, IterationTree, LabelledStatement, ListLeaf, LiterallyElement, LocationLeaf, LocationOrigin, MemberOf, MemberTree, ModuleTree, MoreArguments, MoreDeclarations, MoreStatements, NoArguments, NoDeclarations, NoElse, NoMember, NoStatements, NullStatement, NumberConstant, OffsetTree, OriginTree, ParenthesizedNode, ProcedureTree, ReferenceLeaf, ReferenceTo, ReferenceTree, RestrictedTree, ReturnStatement, ScalarItem, SingleSubject, StatementKindTree, StatementTree, StatementTrees, StringConstant, StringTree, StructureItem, SubjectTree, UnaryNode, ValueListTree, WhileStatement}, declared.declaration.Dimension.{Dimension, TheVariants.{Count, Implied}}, declared.declaration.Linkage.{Linkage, TheVariants.{External, Public}}, declared.declaration.Member.{Member}, declared.declaration.ScalarType.{ScalarType, TheVariants.{Address, Byte}}, declared.expression.BinaryOperator.{BinaryOperator, TheVariants.{Divide, Modulo, Multiply}}, declared.identifier.Identifier.{Identifier}, declared.identifier.Number.{Number}, declared.identifier.Place.{Place}}
+pub use Rattle.trees.specs.{Trees.{ArgumentTrees, AssignmentNode, AssignmentStatement, AtTree, BinaryNode, CallStatement, CaseStatement, ConstantLeaf, ConstantOrigin, ConstantTree, DeclarationTree, DeclarationTrees, DeclareTree, DoStatement, ElementTree, ElseStatement, ElseTree, ExpressionTree, GotoStatement, GroupSubject, HaltStatement, HeadingTree, IfStatement, ItemElement, ItemTree, ItemTypeTree, IterateStatement, IterationTree, LabelledStatement, ListLeaf, LiterallyElement, LocationLeaf, LocationOrigin, MemberOf, MemberTree, ModuleTree, MoreArguments, MoreDeclarations, MoreStatements, NoArguments, NoDeclarations, NoElse, NoMember, NoStatements, NullStatement, NumberConstant, OffsetTree, OriginTree, ParenthesizedNode, ProcedureTree, ReferenceLeaf, ReferenceTo, ReferenceTree, RestrictedTree, ReturnStatement, ScalarItem, SingleSubject, StatementKindTree, StatementTree, StatementTrees, StringConstant, StringTree, StructureItem, SubjectTree, UnaryNode, ValueListTree, WhileStatement}, declared.declaration.Dimension.{Dimension, TheVariants.{Count, Implied}}, declared.declaration.Linkage.{Linkage, TheVariants.{External, Public}}, declared.declaration.Member.{Member}, declared.declaration.ScalarType.{ScalarType, TheVariants.{Address, Byte}}, declared.expression.BinaryOperator.{BinaryOperator, TheVariants.{Divide, Modulo, Multiply}}, declared.identifier.Identifier.{Identifier}, declared.identifier.Number.{Number}, declared.identifier.Place.{Place}, declared.functions.UnaryFunction.{UnaryFunction}}
 pub use Rattle.names.specs.{internal.Binding.{IsFirstFault, fault_of, first_fault}, BuiltIns.{binding_of, built_ins, jump_of}, Environment.{Body, Here, Names, after_body, at_the_start, body_after_block, body_with_name, declared_around, declared_in, empty_body, entity_of, into_block, into_body, into_list, is_among, is_declared_again, is_label_again, is_parameter_again, known_in, label_of, numbered_from, out_of_block, out_of_body, out_of_list, with_definition, with_label, with_object, with_parameter, with_procedure}, internal.Events.{Declaration, Event, Seen, Use, declares_label, declares_object, declares_procedure, events_of, in_list, see_all, see_alone, see_cases, see_declaration, see_declarations, see_element, see_else, see_kind, see_statements, uses_at}, DeclaredNames.{labels_of}, internal.Uses.{names_in_arguments, names_in_expression, names_in_item, names_in_iteration, names_in_member, names_in_optional, names_in_reference, names_in_restricted, names_in_subject}, DeclaredNames.{declared_by}, declared.entity.Binding.{Binding, TheVariants.{BuiltInName, Declared, UnknownLabel}}, declared.entity.BuiltIn.{BuiltIn, TheVariants.{Move}}, declared.entity.Entity.{Entity, TheVariants.{Definition, Label, Object, Procedure}}}
 unfoldable pub use Rattle.names.specs.{BuiltIns.{built_in_of}, internal.Events.{declares, in_turn, jumps_to, moves, nothing, see_item, uses_of}}
-pub use Rattle.typed_trees.specs.{ExpressionTypes.{type_of}, Frames.{AreParameters, FrameFits, FramesFit, HasParameters, IsParameter, ParametersFit, home_of_parameters, is_in_frame, variable_bytes}, Globals.{IsHereIfPublic, ListsGlobals, global_object, global_procedure, is_global, is_shared, shared_object, shared_procedure}, Jumps.{BodyIsSound, IsAmongLabels, IsNoLabel, JumpsAreSound, JumpsStay, JumpsStayInElse, JumpsStayInList, JumpsStayInStatements, LabelsOf, LabelsStand, ListStands, ListsStand, ListsStandInCases, ListsStandInElse, ListsStandInStatements, labels_in, labels_in_else, labels_in_list, labels_in_module, labels_in_procedure, labels_in_statements, labels_of_list}, ObjectParts.{IsInElement, IsMemberOf, IsOneOf, IsPartOf, IsScalar, IsScalarIn, IsScalarOf, IsSubscriptOf}, Sizes.{after_member, count_of, has_member, member_named, scalars_of_element, scalars_of_elements, scalars_of_member, size_of_element, size_of_member, size_of_object, size_of_scalar}, Storable.{HasPlace, IsStorable, LooksAtPlace, LooksBack, bytes_filled, constant_number, list_in, numbered_constant, numbers_from, object_in, size_of_value}, TypedTrees.{BasedOn, Constants, Elsewhere, Home, InConstants, InData, InFrame, LabelStatement, ListNode, ListOf, MoreArguments as MoreTyped, NoArguments as NoTyped, NoSubscript, Nowhere, NumberNode, ObjectType, PartOf, Placed, ScalarObject, StructureObject, Subscript, TypedArguments, TypedElse, TypedExpression, TypedIteration, TypedList, TypedModule, TypedObject, TypedProcedure, TypedReference, TypedStatement, TypedStatements}, WellTyped.{HasLocation, HasType, IsNumberOf, IsSeen, IsWellTyped, LiesFor, RefersToLocation, RefersToScalar, ShiftsIn, Takes, TypesHold, TypesHoldIn, TypesHoldInArguments, TypesHoldInElse, TypesHoldInHead, TypesHoldInList, TypesHoldInProcedure, TypesHoldInReference, TypesHoldInStatements, TypesHoldInSubscript, TypesHoldInTarget, TypesHoldInTargets, Within, WithinMain, WithinProcedure, WorksOn, types_of}, declared.limits.TheConstants.{FRAME_LIMIT, OBJECT_LIMIT, PARAMETER_LIMIT}, declared.members.FoundMember.{FoundMember}, declared.parts.AtAddress.{AtAddress, TheVariants.{AtNumber, AtObject}}, declared.parts.ConstantItem.{ConstantItem, TheVariants.{ConstantList, ConstantObject}}, declared.parts.GlobalItem.{GlobalItem, TheVariants.{GlobalObject, GlobalProcedure}}, declared.parts.InitialValue.{InitialValue, TheVariants.{ByteValue, LocationValue, WordValue}}, declared.parts.Measure.{Measure}, declared.parts.NumberOrigin.TheVariants.{FromDigits}, declared.parts.ShiftFunction.{ShiftFunction}, declared.parts.TypedMember.{TypedMember}, declared.parts.UnaryFunction.{UnaryFunction}, declared.parts.Visibility.{Visibility, TheVariants.{Private}}}
+pub use Rattle.typed_trees.specs.{ExpressionTypes.{type_of}, Frames.{AreParameters, FrameFits, FramesFit, HasParameters, IsParameter, ParametersFit, home_of_parameters, is_in_frame, variable_bytes}, Globals.{IsHereIfPublic, ListsGlobals, global_object, global_procedure, is_global, is_shared, shared_object, shared_procedure}, Jumps.{BodyIsSound, IsAmongLabels, IsNoLabel, JumpsAreSound, JumpsStay, JumpsStayInElse, JumpsStayInList, JumpsStayInStatements, LabelsOf, LabelsStand, ListStands, ListsStand, ListsStandInCases, ListsStandInElse, ListsStandInStatements, labels_in, labels_in_else, labels_in_list, labels_in_module, labels_in_procedure, labels_in_statements, labels_of_list}, ObjectParts.{IsInElement, IsMemberOf, IsOneOf, IsPartOf, IsScalar, IsScalarIn, IsScalarOf, IsSubscriptOf}, Sizes.{after_member, count_of, has_member, member_named, scalars_of_element, scalars_of_elements, scalars_of_member, size_of_element, size_of_member, size_of_object, size_of_scalar}, Storable.{HasPlace, IsStorable, LooksAtPlace, LooksBack, bytes_filled, constant_number, list_in, numbered_constant, numbers_from, object_in, size_of_value}, TypedTrees.{BasedOn, Constants, Elsewhere, Home, InConstants, InData, InFrame, LabelStatement, ListNode, ListOf, MoreArguments as MoreTyped, NoArguments as NoTyped, NoSubscript, Nowhere, NumberNode, ObjectType, PartOf, Placed, ScalarObject, StructureObject, Subscript, TypedArguments, TypedElse, TypedExpression, TypedIteration, TypedList, TypedModule, TypedObject, TypedProcedure, TypedReference, TypedStatement, TypedStatements}, WellTyped.{HasLocation, HasType, IsNumberOf, IsSeen, IsWellTyped, LiesFor, RefersToLocation, RefersToScalar, ShiftsIn, Takes, TypesHold, TypesHoldIn, TypesHoldInArguments, TypesHoldInElse, TypesHoldInHead, TypesHoldInList, TypesHoldInProcedure, TypesHoldInReference, TypesHoldInStatements, TypesHoldInSubscript, TypesHoldInTarget, TypesHoldInTargets, Within, WithinMain, WithinProcedure, WorksOn, types_of}, declared.limits.TheConstants.{FRAME_LIMIT, OBJECT_LIMIT, PARAMETER_LIMIT}, declared.members.FoundMember.{FoundMember}, declared.parts.AtAddress.{AtAddress, TheVariants.{AtNumber, AtObject}}, declared.parts.ConstantItem.{ConstantItem, TheVariants.{ConstantList, ConstantObject}}, declared.parts.GlobalItem.{GlobalItem, TheVariants.{GlobalObject, GlobalProcedure}}, declared.parts.InitialValue.{InitialValue, TheVariants.{ByteValue, LocationValue, WordValue}}, declared.parts.Measure.{Measure}, declared.parts.NumberOrigin.TheVariants.{FromDigits}, declared.parts.ShiftFunction.{ShiftFunction}, declared.parts.TypedMember.{TypedMember}, declared.parts.Visibility.{Visibility, TheVariants.{Private}}}
 pub use Rattle.typing.specs.Blocks.{Block, OfProcedure, Owner, Progress, TheModule, declares_parameter, declares_parameter as declares_its_parameter, is_external, is_external_linkage, is_module_level, is_public_linkage, is_reentrant, place_of_linkage, with_global}
 pub use Rattle.typing.specs.internal.Checks.{Checked, found, refuse, require, ◌>>=◌}
 pub use Rattle.typing.specs.Constants.{bytes_of_constants, moved_by, number_of_characters, type_of_number, with_list}

@@ -1,7 +1,6 @@
 -- Taking the conversions away from a typed reference gives back the reference that it was typed from.
 use Rattle.typing.proofs.Prelude.{◌≡◌, ℕ, suc, ◌==◌, Bool, true, false, List, [], ◌∷◌, length, Option, Some, None, nat_le, refl, sym, ap, subst, ◌∙◌, arith, unwrap_or, slice_get, codes, if◌then◌else◌, option_map, option_map_or, bytes_eq, bytes_eq-Decides, eqb-true, leb-true, ScalarType, Byte, Address, Identifier, Place, ExpressionTree, NumberConstant, StringConstant, ConstantLeaf, ReferenceLeaf, LocationLeaf, ReferenceTree, ReferenceTo, MemberTree, NoMember, MemberOf, ArgumentTrees, NoArguments, MoreArguments, Binding, Declared, BuiltInName, BuiltIn, Object, Procedure, TypedMember, ShiftFunction, UnaryFunction, Measure, TypedExpression, Subscript, TypedReference, TypedArguments, NoTyped, MoreTyped, TypedObject, TypedProcedure, TypedModule, Constants, FoundMember, member_named, after_member, size_of_scalar, size_of_element, type_of, converted, as_type, arguments_as, type_of_shift, Destination, target_of, Known, Given, GivenMember, WithoutMember, WithMember, GivenReference, place_of, number_of_arguments, count_of_given, Extent, AnElement, AlsoTheWhole, takes_subscripts, subscript_of, members_of, FoundPart, part_with_member, part_of, scalar_part, without_member, port_of, port_of_character, has_location, location_of_bound, location_of, is_writable, destination_of_bound, destination_of, call_arguments, call_of, function_of, unary_function, shift_of, shift_function, input_value, Measured, measured_member, measured_object, measure_of, measurement, number_of_variable, built_in_value, value_of_bound, value_of, Agrees, number_of_characters, untyped_expression, untyped_arguments, untyped_subscript, plain_arguments, plain_member, one_argument, member_tree, untyped_target, named, number_leaf, call_tree, function_name, shift_name, measure_name, procedure_name, object_name, untyped_reference, member_name, Checked}
 use Rattle.names.specs.declared.entity.BuiltIn.TheVariants as built_in_names
-use Rattle.typed_trees.specs.declared.parts.UnaryFunction.TheVariants as functions
 use Rattle.typed_trees.specs.declared.parts.ShiftFunction.TheVariants as shifts
 use Rattle.typed_trees.specs.declared.parts.Measure.TheVariants as measures
 use Rattle.typing.proofs.Kept.{Gives, then_more, anything, gives_ok, gives_fault, in_turn, required, is_found, Kept, kept_at, kept_more, kept_both}
@@ -361,9 +360,7 @@ module _ (known : Known) (given : GivenReference) (constants : Constants)
       → given.name.name ≡ spelled built_in
       → GivesValue (built_in_value known built_in given constants)
   built_in_back built_in_names.Input called = input_back called
-  built_in_back built_in_names.Low called = unary_function_back functions.Low called
-  built_in_back built_in_names.High called = unary_function_back functions.High called
-  built_in_back built_in_names.Double called = unary_function_back functions.Double called
+  built_in_back (built_in_names.Unary function) called = unary_function_back function called
   built_in_back built_in_names.Length called = variable_back measures.Length called
   built_in_back built_in_names.Last called = variable_back measures.Last called
   built_in_back built_in_names.Size called = variable_back measures.Size called

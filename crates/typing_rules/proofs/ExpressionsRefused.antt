@@ -5,7 +5,7 @@ use Rattle.names.specs.declared.entity.BuiltIn.TheVariants as built_ins
 use Rattle.typed_trees.specs.declared.parts.Measure.TheVariants as measures
 use Rattle.typing_rules.proofs.Judged.{fault_of, then_ok, then_fault, passed, failed, got, got_none}
 use Rattle.typing_rules.proofs.ReferencesJudged.{given_name}
-use Rattle.typing_rules.proofs.ExpressionsTyped.{port_is, function_is, shift_is, measure_function_is, then_member_ok, measured_is, measure_is, one_fits, typing_is, values_is, subscript_is, part_is, target_is}
+use Rattle.typing_rules.proofs.ExpressionsTyped.{port_is, shift_is, measure_function_is, then_member_ok, measured_is, measure_is, one_fits, typing_is, values_is, subscript_is, part_is, target_is}
 
 pub is_nothing : {A : Type 0} (option : Option A) → ((a : A) → ¬ (option ≡ Some a)) → option ≡ None
 is_nothing None none = refl
@@ -198,13 +198,8 @@ member_of_result_is member its none (typed_call is typed count values) =
     (then_ok _ (then_ok _ (passed _ _ (eq-eqb _ _ count)) (then_ok _ (values_is values) refl)) refl)))
 member_of_result_is member its none (input named is) =
     then_ok _ (got _ _ named) (then_ok _ (port_is is _) refl)
-member_of_result_is {known = known} member its none
-    (function_call {before = before} {name = name} {operand = operand}
-    {function = function} named one) =
-    then_ok _ (got _ _ named)
-    (function_is known (given_name known name (MoreArguments operand NoArguments) (MemberOf member its))
-    before
-    function (then_ok _ (then_ok _ (typing_is one) refl) refl))
+member_of_result_is member its none (function_call named one) =
+    then_ok _ (got _ _ named) (then_ok _ (then_ok _ (typing_is one) refl) refl)
 member_of_result_is {known = known} member its none
     (shift_call {before = before} {name = name} {value = value} {count = count}
     {function = function} named one other) =
@@ -231,8 +226,7 @@ wrong_values_are : {built_in : BuiltIn} {count : ℕ} (known : Known) (name : Id
     → value_of_bound known (BuiltInName built_in) (given_name known name trees part) before
     ≡ Err (at_name ArgumentCount name)
 wrong_values_are known name trees part before (takes_one function) wrong =
-    function_is known (given_name known name trees part) before function
-    (then_fault _ (failed _ _ (ne_eqb _ _ wrong)))
+    then_fault _ (failed _ _ (ne_eqb _ _ wrong))
 wrong_values_are known name trees part before (takes_two function) wrong =
     shift_is known (given_name known name trees part) before function
     (then_fault _ (failed _ _ (ne_eqb _ _ wrong)))
@@ -245,8 +239,7 @@ values_fault_is : {built_in : BuiltIn} {count : ℕ} (known : Known) (name : Ide
     → arguments known trees before ≡ Err fault
     → value_of_bound known (BuiltInName built_in) (given_name known name trees part) before ≡ Err fault
 values_fault_is known name trees part before fault (takes_one function) count is =
-    function_is known (given_name known name trees part) before function
-    (then_ok _ (passed _ _ (eq-eqb _ _ count)) (then_fault _ is))
+    then_ok _ (passed _ _ (eq-eqb _ _ count)) (then_fault _ is)
 values_fault_is known name trees part before fault (takes_two function) count is =
     shift_is known (given_name known name trees part) before function
     (then_ok _ (passed _ _ (eq-eqb _ _ count)) (then_fault _ is))

@@ -1,8 +1,7 @@
 -- A typing of an expression by the rules is the one that the typing gives. So there is at most one.
-use Rattle.typing_rules.proofs.Prelude.{◌≡◌, ◌∙◌, ℕ, true, Option, Some, Ok, Err, not, refl, sym, ap, subst, le-leb, eq-eqb, Identifier, Place, ConstantTree, ExpressionTree, ReferenceLeaf, ReferenceTree, ReferenceTo, MemberTree, NoMember, ArgumentTrees, NoArguments, MoreArguments, Binding, Declared, Object, FoundMember, Measure, ShiftFunction, UnaryFunction, ScalarType, member_named, TypedExpression, TypedReference, PartOf, Subscript, TypedArguments, NoTyped, MoreTyped, TypedObject, Constants, MemberMismatch, UnknownName, Checked, ◌>>=◌, found, number_of_characters, number_of_constant, expression, given_reference, arguments, Measured, measured_object, measure_of, number_of_variable, unary_function, shift_function, built_in_value, Destination, Known, GivenReference, Extent, AnElement, AlsoTheWhole, number_of_arguments, takes_subscripts, subscript_of, members_of, FoundPart, whole_part, part_of, port_of, port_of_character, destination_of, IsNumber, digits, one_character, two_characters, IsPort, port_number, port_character, StandsFor, named_function, named_shift, named_measure, IsMember, IsMeasured, a_variable, a_member, IsMeasure, a_length, a_last, a_size, ExpressionTyping, constant, scalar_value, typed_call, input, function_call, shift_call, measure_call, location, constant_list, parenthesized, embedded_assignment, unary, binary, ValuesTyping, no_values, next_value, SubscriptTyping, no_array, element, whole_array, PartTyping, has_no_member, has_member, TargetTyping, scalar_target, output}
+use Rattle.typing_rules.proofs.Prelude.{◌≡◌, ◌∙◌, ℕ, true, Option, Some, Ok, Err, not, refl, sym, ap, subst, le-leb, eq-eqb, Identifier, Place, ConstantTree, ExpressionTree, ReferenceLeaf, ReferenceTree, ReferenceTo, MemberTree, NoMember, ArgumentTrees, NoArguments, MoreArguments, Binding, Declared, Object, FoundMember, Measure, ShiftFunction, ScalarType, member_named, TypedExpression, TypedReference, PartOf, Subscript, TypedArguments, NoTyped, MoreTyped, TypedObject, Constants, MemberMismatch, UnknownName, Checked, ◌>>=◌, found, number_of_characters, number_of_constant, expression, given_reference, arguments, Measured, measured_object, measure_of, number_of_variable, shift_function, built_in_value, Destination, Known, GivenReference, Extent, AnElement, AlsoTheWhole, number_of_arguments, takes_subscripts, subscript_of, members_of, FoundPart, whole_part, part_of, port_of, port_of_character, destination_of, IsNumber, digits, one_character, two_characters, IsPort, port_number, port_character, StandsFor, named_shift, named_measure, IsMember, IsMeasured, a_variable, a_member, IsMeasure, a_length, a_last, a_size, ExpressionTyping, constant, scalar_value, typed_call, input, function_call, shift_call, measure_call, location, constant_list, parenthesized, embedded_assignment, unary, binary, ValuesTyping, no_values, next_value, SubscriptTyping, no_array, element, whole_array, PartTyping, has_no_member, has_member, TargetTyping, scalar_target, output}
 use Rattle.typed_trees.specs.declared.parts.Measure.TheVariants as measures
 use Rattle.typed_trees.specs.declared.parts.ShiftFunction.TheVariants as shifts
-use Rattle.typed_trees.specs.declared.parts.UnaryFunction.TheVariants as functions
 use Rattle.typing_rules.proofs.Judged.{then_ok, passed, got}
 use Rattle.typing_rules.proofs.ReferencesJudged.{given_name}
 
@@ -21,15 +20,6 @@ port_is (port_character {character = character} is fits) place =
     (then_ok _ (passed _ _ (le-leb _ _ fits)) refl)
 
 -- built-in functions
-pub function_is : (known : Known) (given : GivenReference) (before : Constants)
-    {result : Checked (TypedExpression × Constants)}
-    (function : UnaryFunction)
-    → unary_function function given before ≡ result
-    → built_in_value known (named_function function) given before ≡ result
-function_is known given before functions.Low e = e
-function_is known given before functions.High e = e
-function_is known given before functions.Double e = e
-
 pub shift_is : (known : Known) (given : GivenReference) (before : Constants)
     {result : Checked (TypedExpression × Constants)}
     (function : ShiftFunction)
@@ -113,12 +103,8 @@ mutual
       then_ok _ (got _ _ is.named) (then_ok _ (got _ _ is.listed) (then_ok _ (got _ _ typed)
       (then_ok _ (then_ok _ (passed _ _ (eq-eqb _ _ count)) (then_ok _ (values_is values) refl)) refl)))
   typing_is (input named is) = then_ok _ (got _ _ named) (then_ok _ (port_is is _) refl)
-  typing_is {known = known}
-      (function_call {before = before} {name = name} {operand = operand} {function = function} named one) =
-      then_ok _ (got _ _ named)
-      (function_is known (given_name known name (MoreArguments operand NoArguments) NoMember) before
-      function
-      (then_ok _ (then_ok _ (typing_is one) refl) refl))
+  typing_is (function_call named one) =
+      then_ok _ (got _ _ named) (then_ok _ (then_ok _ (typing_is one) refl) refl)
   typing_is {known = known}
       (shift_call {before = before} {name = name} {value = value} {count = count}
       {function = function} named one

@@ -1,10 +1,9 @@
 -- References: what the typing gives of them has a typing by the rules, and the fault that it gives is one of
 -- the rules.
-use Rattle.typing_rules.proofs.Prelude.{not-false, not-true, ◌≡◌, ℕ, zero, suc, ◌==◌, true, false, List, [], ◌∷◌, length, Option, Some, None, Ok, nat_le, refl, ap, subst, arith, slice_get, leb-true, leb-false, eqb-true, eqb-false, Identifier, NumberConstant, StringConstant, StringTree, ExpressionTree, ConstantLeaf, ReferenceLeaf, LocationLeaf, ReferenceTo, MemberTree, NoMember, MemberOf, ArgumentTrees, NoArguments, MoreArguments, Binding, Declared, BuiltInName, UnknownLabel, BuiltIn, Object, Procedure, Label, Definition, binding_of, FoundMember, Measure, ShiftFunction, TypedMember, UnaryFunction, size_of_scalar, size_of_element, member_named, TypedExpression, CallNode, InputNode, TypedReference, PartOf, Subscript, NoSubscript, TypedArguments, ObjectType, ScalarObject, StructureObject, TypedObject, TypedProcedure, Constants, ArgumentCount, CallOfNoProcedure, ConstantWritten, MemberMismatch, NoLocation, NoVariable, NotMeasurable, PortTooLarge, SubscriptMismatch, UnknownName, ValueOfUntyped, Fault, Checked, ◌>>=◌, require, found, given_member, arguments, call_of, Measured, measured_member, measured_object, measure_of, measurement, number_of_variable, function_of, unary_function, shift_of, shift_function, input_value, built_in_value, value_of_bound, value_of, Destination, Known, GivenReference, Extent, AnElement, AlsoTheWhole, number_of_arguments, takes_subscripts, subscript_of, members_of, FoundPart, part_with_member, part_of, scalar_part, has_location, location_of_bound, location_of, port_of, port_of_character, without_member, is_constant, destination_of_bound, destination_of, Port, not, IsPort, port_number, port_character, StandsFor, IsVariable, IsProcedure, IsBuiltIn, IsNoVariable, at_name, named_function, named_shift, named_measure, IsMember, IsMeasured, a_variable, a_member, IsMeasure, a_length, a_last, a_size, ExpressionTyping, scalar_value, typed_call, input, function_call, shift_call, measure_call, location, ValuesTyping, no_values, next_value, SubscriptTyping, no_array, element, whole_array, PartTyping, has_no_member, has_member, TargetTyping, scalar_target, output, PortFault, number_too_great, character_too_great, no_character, no_constant, MemberFault, no_structure, no_such_member, MeasureFault, no_reference, unknown_variable, no_variable, subscripted, in_member, no_dimension, IsWrongNumber, of_no_array, more_than_one, no_element, HasNoValue, takes_one, takes_two, ExpressionFault, ValuesFault, in_first, in_others, ValueFault, unknown_value, no_value, in_part, no_scalar, no_procedure, untyped, value_of_output, value_of_move, wrong_count, in_argument, wrong_count_of_values, in_values, in_port, in_measure, member_of_result, LocationFault, unknown_location, location_of_procedure, location_in_frame, location_of_no_variable, in_located_part, TargetFault, unknown_target, no_target, target_with_data, in_target_part, no_scalar_target, in_output, member_of_output, SubscriptFault, wrong_number, in_subscript, PartFault, in_subscripts, no_member, in_member_subscripts}
+use Rattle.typing_rules.proofs.Prelude.{not-false, not-true, ◌≡◌, ℕ, zero, suc, ◌==◌, true, false, List, [], ◌∷◌, length, Option, Some, None, Ok, nat_le, refl, ap, subst, arith, slice_get, leb-true, leb-false, eqb-true, eqb-false, Identifier, NumberConstant, StringConstant, StringTree, ExpressionTree, ConstantLeaf, ReferenceLeaf, LocationLeaf, ReferenceTo, MemberTree, NoMember, MemberOf, ArgumentTrees, NoArguments, MoreArguments, Binding, Declared, BuiltInName, UnknownLabel, BuiltIn, Object, Procedure, Label, Definition, binding_of, FoundMember, Measure, ShiftFunction, TypedMember, UnaryFunction, size_of_scalar, size_of_element, member_named, TypedExpression, CallNode, InputNode, TypedReference, PartOf, Subscript, NoSubscript, TypedArguments, ObjectType, ScalarObject, StructureObject, TypedObject, TypedProcedure, Constants, ArgumentCount, CallOfNoProcedure, ConstantWritten, MemberMismatch, NoLocation, NoVariable, NotMeasurable, PortTooLarge, SubscriptMismatch, UnknownName, ValueOfUntyped, Fault, Checked, ◌>>=◌, require, found, given_member, arguments, call_of, Measured, measured_member, measured_object, measure_of, measurement, number_of_variable, function_of, unary_function, shift_of, shift_function, input_value, built_in_value, value_of_bound, value_of, Destination, Known, GivenReference, Extent, AnElement, AlsoTheWhole, number_of_arguments, takes_subscripts, subscript_of, members_of, FoundPart, part_with_member, part_of, scalar_part, has_location, location_of_bound, location_of, port_of, port_of_character, without_member, is_constant, destination_of_bound, destination_of, Port, not, IsPort, port_number, port_character, StandsFor, IsVariable, IsProcedure, IsBuiltIn, IsNoVariable, at_name, named_shift, named_measure, IsMember, IsMeasured, a_variable, a_member, IsMeasure, a_length, a_last, a_size, ExpressionTyping, scalar_value, typed_call, input, function_call, shift_call, measure_call, location, ValuesTyping, no_values, next_value, SubscriptTyping, no_array, element, whole_array, PartTyping, has_no_member, has_member, TargetTyping, scalar_target, output, PortFault, number_too_great, character_too_great, no_character, no_constant, MemberFault, no_structure, no_such_member, MeasureFault, no_reference, unknown_variable, no_variable, subscripted, in_member, no_dimension, IsWrongNumber, of_no_array, more_than_one, no_element, HasNoValue, takes_one, takes_two, ExpressionFault, ValuesFault, in_first, in_others, ValueFault, unknown_value, no_value, in_part, no_scalar, no_procedure, untyped, value_of_output, value_of_move, wrong_count, in_argument, wrong_count_of_values, in_values, in_port, in_measure, member_of_result, LocationFault, unknown_location, location_of_procedure, location_in_frame, location_of_no_variable, in_located_part, TargetFault, unknown_target, no_target, target_with_data, in_target_part, no_scalar_target, in_output, member_of_output, SubscriptFault, wrong_number, in_subscript, PartFault, in_subscripts, no_member, in_member_subscripts}
 use Rattle.names.specs.declared.entity.BuiltIn.TheVariants as built_ins
 use Rattle.typed_trees.specs.declared.parts.Measure.TheVariants as measures
 use Rattle.typed_trees.specs.declared.parts.ShiftFunction.TheVariants as shifts
-use Rattle.typed_trees.specs.declared.parts.UnaryFunction.TheVariants as functions
 use Rattle.typing_rules.proofs.Judged.{Judged, judged_ok, judged_fault, then_judged, then_when, is_found, then_found}
 
 -- arguments are judged by the rules, wherever constant lists have come to
@@ -374,11 +373,11 @@ call_judged known number procedure name trees part before is judged =
     (λ values its. result_judged known name trees part before values.1 (CallNode number result values.0)
     (is_no_variable _ is.named (λ other object e listed. absurd cc)) its))
 
--- LOW, HIGH and DOUBLE
+-- the built-in functions of one value
 one_value : (known : Known) (function : UnaryFunction) (name : Identifier) (part : MemberTree)
     (before : Constants)
     {operand : ExpressionTree} {typed : TypedArguments} {after : Constants}
-    → IsBuiltIn known name (named_function function)
+    → IsBuiltIn known name (built_ins.Unary function)
     → ValuesTyping known before (MoreArguments operand NoArguments) typed after
     → ValueJudged known name (MoreArguments operand NoArguments) part before
     (without_member (given_member known part) >>= λ _. function_of function name.place typed
@@ -390,7 +389,7 @@ one_value known function name part before named (next_value one no_values) =
 unary_judged : (known : Known) (function : UnaryFunction) (name : Identifier)
     (trees : ArgumentTrees) (part : MemberTree)
     (before : Constants)
-    → IsBuiltIn known name (named_function function)
+    → IsBuiltIn known name (built_ins.Unary function)
     → ValuesJudged known trees
     → ValueJudged known name trees part before
     (unary_function function (given_name known name trees part) before)
@@ -473,12 +472,8 @@ built_in_judged known built_ins.Input name trees part before named judged =
     input_judged known name trees part before named
 built_in_judged known built_ins.Output name trees part before named judged =
     judged_fault (value_of_output named)
-built_in_judged known built_ins.Low name trees part before named judged =
-    unary_judged known functions.Low name trees part before named judged
-built_in_judged known built_ins.High name trees part before named judged =
-    unary_judged known functions.High name trees part before named judged
-built_in_judged known built_ins.Double name trees part before named judged =
-    unary_judged known functions.Double name trees part before named judged
+built_in_judged known (built_ins.Unary function) name trees part before named judged =
+    unary_judged known function name trees part before named judged
 built_in_judged known built_ins.Length name trees part before named judged =
     number_judged known measures.Length name trees part before named
 built_in_judged known built_ins.Last name trees part before named judged =

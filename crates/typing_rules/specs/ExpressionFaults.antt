@@ -19,13 +19,13 @@ use Rattle.typed_trees.specs.declared.parts.Measure.{Measure}
 use Rattle.typed_trees.specs.declared.parts.Measure.TheVariants as measures
 use Rattle.typed_trees.specs.declared.parts.ShiftFunction.{ShiftFunction}
 use Rattle.typed_trees.specs.declared.parts.TypedMember.{TypedMember}
-use Rattle.typed_trees.specs.declared.parts.UnaryFunction.{UnaryFunction}
+use Rattle.trees.specs.declared.functions.UnaryFunction.{UnaryFunction}
 use Rattle.typed_trees.specs.Sizes.{size_of_element, member_named}
 use Rattle.typed_trees.specs.TypedTrees.{TypedExpression, TypedReference, Subscript, ScalarObject, StructureObject, TypedObject, TypedProcedure, Constants}
 use Rattle.typing.specs.References.{Measured, Known, Extent, AnElement, AlsoTheWhole, number_of_arguments, has_location, is_constant}
 use Rattle.typing.specs.Nodes.{Destination}
 use Rattle.typing_rules.specs.Constants.{IsPort}
-use Rattle.typing_rules.specs.Expressions.{named_function, named_shift, named_measure, IsMember, IsMeasured, ExpressionTyping, SubscriptTyping, PartTyping, TargetTyping}
+use Rattle.typing_rules.specs.Expressions.{named_shift, named_measure, IsMember, IsMeasured, ExpressionTyping, SubscriptTyping, PartTyping, TargetTyping}
 use Rattle.typing_rules.specs.Names.{StandsFor, IsUnknown, IsVariable, IsProcedure, IsBuiltIn, IsNoVariable, at_name}
 
 -- a string that is no number, since it has no characters or more than two
@@ -118,7 +118,7 @@ pub record HasNoValue (known : Known) (name : Identifier) : Type 0 where
 
 -- the built-in functions of one value, and of a value and a count
 pub data TakesValues : BuiltIn → ℕ → Type 0 where
-  takes_one : (function : UnaryFunction) → TakesValues (named_function function) 1
+  takes_one : (function : UnaryFunction) → TakesValues (built_ins.Unary function) 1
   takes_two : (function : ShiftFunction) → TakesValues (named_shift function) 2
 
 mutual

@@ -17,8 +17,7 @@ use Rattle.typed_trees.specs.declared.parts.NumberOrigin.TheVariants.{FromMeasur
 use Rattle.typed_trees.specs.declared.parts.ShiftFunction.{ShiftFunction}
 use Rattle.typed_trees.specs.declared.parts.ShiftFunction.TheVariants as shifts
 use Rattle.typed_trees.specs.declared.parts.TypedMember.{TypedMember}
-use Rattle.typed_trees.specs.declared.parts.UnaryFunction.{UnaryFunction}
-use Rattle.typed_trees.specs.declared.parts.UnaryFunction.TheVariants as functions
+use Rattle.trees.specs.declared.functions.UnaryFunction.{UnaryFunction}
 use Rattle.typed_trees.specs.ExpressionTypes.{type_of}
 use Rattle.typed_trees.specs.Sizes.{size_of_scalar, size_of_member, size_of_element, size_of_object, member_named}
 use Rattle.typed_trees.specs.TypedTrees.{TypedExpression, NumberNode, ValueNode, LocationNode, ListNode, AssignmentNode as TypedAssignment, UnaryNode as TypedUnary, CallNode, FunctionNode, InputNode, TypedReference, PartOf, Subscript, NoSubscript, At, TypedArguments, NoArguments as NoTyped, MoreArguments as MoreTyped, StructureObject, TypedObject, TypedProcedure, Constants}
@@ -28,12 +27,7 @@ use Rattle.typing.specs.Nodes.{as_type, binary_node, shift_node, arguments_as, D
 use Rattle.typing_rules.specs.Constants.{IsNumber, IsPort}
 use Rattle.typing_rules.specs.Names.{IsVariable, IsProcedure, IsBuiltIn}
 
--- the built-in functions of one value, of a value and a count, and of a variable
-abbrev pub named_function : UnaryFunction → BuiltIn
-named_function functions.Low = built_ins.Low
-named_function functions.High = built_ins.High
-named_function functions.Double = built_ins.Double
-
+-- the built-in functions of a value and a count, and of a variable
 abbrev pub named_shift : ShiftFunction → BuiltIn
 named_shift shifts.ShiftLeft = built_ins.ShiftLeft
 named_shift shifts.ShiftRight = built_ins.ShiftRight
@@ -108,7 +102,7 @@ mutual
     -- LOW and HIGH of a value give a BYTE, DOUBLE an ADDRESS
     function_call : {before after : Constants} {name : Identifier} {operand : ExpressionTree}
         {typed : TypedExpression} {function : UnaryFunction}
-        → IsBuiltIn known name (named_function function)
+        → IsBuiltIn known name (built_ins.Unary function)
         → ExpressionTyping known before operand typed after
         → ExpressionTyping known before (ReferenceLeaf (ReferenceTo name (MoreArguments operand NoArguments) NoMember))
         (FunctionNode function typed) after

@@ -6,8 +6,8 @@ use Rattle.isa8080.specs.declared.instr.Register.TheVariants.{A, H, L}
 use Rattle.trees.specs.declared.declaration.ScalarType.TheVariants as scalars
 use Rattle.trees.specs.declared.expression.UnaryOperator.{UnaryOperator}
 use Rattle.trees.specs.declared.expression.UnaryOperator.TheVariants.{Not, Negate}
-use Rattle.typed_trees.specs.declared.parts.UnaryFunction.{UnaryFunction}
-use Rattle.typed_trees.specs.declared.parts.UnaryFunction.TheVariants.{Double}
+use Rattle.trees.specs.declared.functions.UnaryFunction.{UnaryFunction}
+use Rattle.trees.specs.declared.functions.UnaryFunction.TheVariants.{Double}
 use Rattle.treecode.specs.declared.expression.Expression.{Expression}
 use Rattle.treecode.specs.declared.expression.ExpressionForm.{ExpressionForm}
 use Rattle.treecode.specs.declared.expression.ExpressionForm.TheVariants as forms

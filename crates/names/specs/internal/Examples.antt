@@ -1,11 +1,12 @@
 -- Small modules, with the bindings of their uses of names, or their first fault. Each is computed.
 use Rattle.std.specs.Prelude.{◌≡◌, ℕ, List, [], ◌∷◌, Option, Some, None, codes, refl}
 use Rattle.trees.specs.declared.declaration.ScalarType.TheVariants.{Byte}
+use Rattle.trees.specs.declared.functions.UnaryFunction.TheVariants.{Low}
 use Rattle.trees.specs.declared.identifier.Identifier.{Identifier}
 use Rattle.trees.specs.declared.identifier.Place.{Place}
 use Rattle.trees.specs.Trees.{ReferenceLeaf, ReferenceTree, ReferenceTo, NoMember, NoArguments, ElementTree, ItemElement, ScalarItem, SingleSubject, StatementTree, LabelledStatement, StatementKindTree, NullStatement, AssignmentStatement, CallStatement, GotoStatement, DoStatement, WhileStatement, StatementTrees, NoStatements, MoreStatements, DeclarationTree, DeclareTree, ProcedureTree, DeclarationTrees, NoDeclarations, MoreDeclarations, ModuleTree}
 use Rattle.names.specs.declared.entity.Binding.TheVariants.{Declared, BuiltInName, UnknownLabel}
-use Rattle.names.specs.declared.entity.BuiltIn.TheVariants.{Low}
+use Rattle.names.specs.declared.entity.BuiltIn.TheVariants.{Unary}
 use Rattle.names.specs.declared.entity.Entity.TheVariants.{Object, Procedure, Label}
 use Rattle.names.specs.declared.fault.Fault.TheVariants.{Unknown, DeclaredTwice}
 use Rattle.names.specs.internal.Binding.{IsBinding, first_fault}
@@ -82,7 +83,7 @@ inner_name =
     (plain (DoStatement at (declarations (declare 2 (codes "A") ∷ [])) (lines (plain (assign 2 (codes "A") (codes "A")) ∷ [])))
     ∷ plain (assign 3 (codes "A") (codes "LOW")) ∷ [])
 
-inner_name-is : IsBinding inner_name (Declared (Object 1) ∷ Declared (Object 1) ∷ Declared (Object 0) ∷ BuiltInName Low ∷ [])
+inner_name-is : IsBinding inner_name (Declared (Object 1) ∷ Declared (Object 1) ∷ Declared (Object 0) ∷ BuiltInName (Unary Low) ∷ [])
 unfolding in_turn see_item declares nothing moves jumps_to uses_of built_in_of
 inner_name-is = record { faultless = refl; bound = refl }
 

@@ -7,7 +7,7 @@ use Rattle.asm8080.specs.declared.item.WordForm.TheVariants as forms
 use Rattle.trees.specs.declared.expression.BinaryOperator.{BinaryOperator}
 use Rattle.trees.specs.declared.expression.BinaryOperator.TheVariants as operators
 use Rattle.trees.specs.declared.expression.UnaryOperator.TheVariants.{Not, Negate}
-use Rattle.typed_trees.specs.declared.parts.UnaryFunction.TheVariants.{Low, Double}
+use Rattle.trees.specs.declared.functions.UnaryFunction.TheVariants.{Low, Double}
 use Rattle.treecode.specs.declared.expression.ExpressionForm.{ExpressionForm}
 use Rattle.treecode.specs.declared.expression.ExpressionForm.TheVariants.{Conversion, Function, Unary, Binary}
 use Rattle.treecode.specs.declared.expression.ExpressionNumber.{ExpressionNumber}

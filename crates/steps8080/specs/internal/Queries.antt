@@ -4,7 +4,7 @@ use Rattle.trees.specs.declared.declaration.ScalarType.{ScalarType}
 use Rattle.trees.specs.declared.declaration.ScalarType.TheVariants as scalars
 use Rattle.trees.specs.declared.expression.BinaryOperator.{BinaryOperator}
 use Rattle.trees.specs.declared.expression.BinaryOperator.TheVariants.{Add, Subtract}
-use Rattle.typed_trees.specs.declared.parts.UnaryFunction.TheVariants.{High}
+use Rattle.trees.specs.declared.functions.UnaryFunction.TheVariants.{High}
 use Rattle.treecode.specs.declared.expression.Expression.{Expression}
 use Rattle.treecode.specs.declared.expression.ExpressionForm.{ExpressionForm}
 use Rattle.treecode.specs.declared.expression.ExpressionForm.TheVariants.{Binary, Function, Value}

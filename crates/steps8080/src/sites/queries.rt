@@ -8,8 +8,7 @@ use treecode::{
     Expression, ExpressionForm, ExpressionNumber, Home, Keeps, Location, Place, Reference,
     Subscript, keeps_of_address,
 };
-use trees::{BinaryOperator, ScalarType};
-use typed_trees::UnaryFunction;
+use trees::{BinaryOperator, ScalarType, UnaryFunction};
 
 /// The base from which the address of an object or a part of it counts.
 #[derive(Clone, Copy)]

@@ -7,8 +7,8 @@ use crate::sites::queries::reference_after;
 use crate::sites::site::Site;
 use crate::{Facts, before, is_at, low};
 use treecode::{Expression, ExpressionForm, ExpressionNumber, Location, Place, Reference};
-use trees::{BinaryOperator, ScalarType};
-use typed_trees::{ShiftFunction, UnaryFunction};
+use trees::{BinaryOperator, ScalarType, UnaryFunction};
+use typed_trees::ShiftFunction;
 
 /// The exponent of a power of 2, if the number is one.
 #[tactic(auto, unfolding(crate::specs::internal::Widths::power_of_two))]

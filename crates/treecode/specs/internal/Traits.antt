@@ -7,7 +7,7 @@ use Rattle.trees.specs.declared.expression.BinaryOperator.{BinaryOperator}
 use Rattle.trees.specs.declared.expression.BinaryOperator.TheVariants as operators
 use Rattle.typed_trees.specs.declared.parts.ShiftFunction.{ShiftFunction}
 use Rattle.typed_trees.specs.declared.parts.ShiftFunction.TheVariants.{ShiftLeft, ShiftRight}
-use Rattle.typed_trees.specs.declared.parts.UnaryFunction.TheVariants.{Low, High, Double}
+use Rattle.trees.specs.declared.functions.UnaryFunction.TheVariants.{Low, High, Double}
 use Rattle.meaning.specs.Values.{result_of_one, shifted}
 use Rattle.treecode.specs.declared.expression.Expression.{Expression}
 use Rattle.treecode.specs.declared.expression.ExpressionForm.{ExpressionForm}

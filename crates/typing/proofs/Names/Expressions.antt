@@ -4,7 +4,6 @@ use Rattle.typing.proofs.Prelude.{nat_le, ◌≡◌, ◌==◌, ℕ, List, [], �
 use Rattle.names.specs.declared.entity.BuiltIn.TheVariants as built_ins
 use Rattle.typed_trees.specs.declared.parts.Measure.TheVariants as measures
 use Rattle.typed_trees.specs.declared.parts.ShiftFunction.TheVariants as shifts
-use Rattle.typed_trees.specs.declared.parts.UnaryFunction.TheVariants as functions
 use Rattle.typing.proofs.Names.Meeting.{Joins, IsOther, meets_ok, meets_fault, meets_then, meets_as, after_other, before_other, other_required, other_found}
 use Rattle.typing.proofs.Names.ChecksWithoutNames.{not_of_names, number-other, object-other, procedure-other, writable-other, measure-other, function-other, shift-other}
 use Rattle.typing.proofs.Names.Bound.{AreKnown, IsUnknown, Finds, names_join, bound-finds}
@@ -237,9 +236,7 @@ module _ (known : Known) (given : GivenReference) (fits : ReferenceFits known gi
   built_in_value-finds built_ins.Input constants = input_value-finds constants
   built_in_value-finds built_ins.Output constants =
       meets_fault ValueOfUntyped (place_of given.name) not_of_names
-  built_in_value-finds built_ins.Low constants = unary_function-finds functions.Low constants
-  built_in_value-finds built_ins.High constants = unary_function-finds functions.High constants
-  built_in_value-finds built_ins.Double constants = unary_function-finds functions.Double constants
+  built_in_value-finds (built_ins.Unary function) constants = unary_function-finds function constants
   built_in_value-finds built_ins.Length constants = number_of_variable-finds measures.Length constants
   built_in_value-finds built_ins.Last constants = number_of_variable-finds measures.Last constants
   built_in_value-finds built_ins.Size constants = number_of_variable-finds measures.Size constants

@@ -3,7 +3,6 @@ use Rattle.typing.proofs.Prelude.{ℕ, List, IfOk, ◌==◌, length, ExpressionT
 use Rattle.names.specs.declared.entity.BuiltIn.TheVariants as built_ins
 use Rattle.typed_trees.specs.declared.parts.Measure.TheVariants as measures
 use Rattle.typed_trees.specs.declared.parts.ShiftFunction.TheVariants as shifts
-use Rattle.typed_trees.specs.declared.parts.UnaryFunction.TheVariants as functions
 use Rattle.typing.proofs.Steps.{then_checks, then_any}
 use Rattle.typing.proofs.Storage.Storable.{AreStorable, list_more}
 
@@ -155,12 +154,8 @@ module _ {objects : List TypedObject} where
       → IfOk (built_in_value known built_in given constants) (λ typed. AreStorable objects typed.1)
   built_in_value_is known built_ins.Input given constants keeps are = input_value_is given constants are
   built_in_value_is known built_ins.Output given constants keeps are = tt
-  built_in_value_is known built_ins.Low given constants keeps are =
-      unary_function_is functions.Low given constants keeps are
-  built_in_value_is known built_ins.High given constants keeps are =
-      unary_function_is functions.High given constants keeps are
-  built_in_value_is known built_ins.Double given constants keeps are =
-      unary_function_is functions.Double given constants keeps are
+  built_in_value_is known (built_ins.Unary function) given constants keeps are =
+      unary_function_is function given constants keeps are
   built_in_value_is known built_ins.Length given constants keeps are =
       number_of_variable_is known measures.Length given constants are
   built_in_value_is known built_ins.Last given constants keeps are =

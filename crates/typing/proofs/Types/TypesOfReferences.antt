@@ -2,7 +2,6 @@
 use Rattle.typing.proofs.Prelude.{◌≡◌, ℕ, ◌+◌, ◌<◌, ◌==◌, Bool, true, false, List, [], ◌∷◌, length, take, Option, Some, None, nat_le, sum_by, slice_get, refl, sym, ap, ap₂, subst, ◌∙◌, arith, if◌then◌else◌, IsSomeAnd, option_map, bytes_eq, eqb-true, leb-true, sum_by-cons, slice_get-map, ScalarType, Byte, Address, Identifier, Place, NumberConstant, StringConstant, ConstantLeaf, ReferenceLeaf, ReferenceTo, ArgumentTrees, NoArguments, MoreArguments, Binding, Declared, BuiltInName, BuiltIn, Object, Procedure, entity_of, FoundMember, TypedMember, ShiftFunction, UnaryFunction, Measure, TypedExpression, TypedReference, PartOf, Subscript, NoSubscript, TypedArguments, NoTyped, MoreTyped, ObjectType, ScalarObject, StructureObject, Home, InFrame, TypedObject, TypedProcedure, TypedModule, Constants, member_named, after_member, size_of_scalar, size_of_member, size_of_element, IsSubscriptOf, IsMemberOf, IsInElement, IsPartOf, IsOneOf, IsScalarIn, IsScalarOf, type_of, Within, IsSeen, RefersToScalar, HasLocation, RefersToLocation, IsNumberOf, ShiftsIn, types_of, Takes, TypesHold, TypesHoldInReference, TypesHoldInSubscript, TypesHoldInTarget, TypesHoldInArguments, HasType, type_of_number, converted, as_type, arguments_as, type_of_shift, shift_node, Destination, target_of, Known, Given, GivenMember, WithoutMember, WithMember, GivenReference, place_of, number_of_arguments, count_of_given, Extent, AnElement, AlsoTheWhole, takes_subscripts, subscript_of, members_of, scalar_of, FoundPart, whole_part, part_with_member, bound, part_of, scalar_part, without_member, port_from, port_of_character, port_of, has_location, location_of_bound, location_of, is_writable, destination_of_bound, destination_of, call_arguments, function_of, unary_function, shift_of, shift_function, measured_object, measure_of, measurement, number_of_variable, built_in_value, value_of_bound, value_of, ArgumentCount, Checked, require, some_and}
 use Rattle.names.specs.declared.entity.BuiltIn.TheVariants as built_in_names
 use Rattle.typed_trees.specs.declared.parts.ShiftFunction.TheVariants as shifts
-use Rattle.typed_trees.specs.declared.parts.UnaryFunction.TheVariants as functions
 use Rattle.typed_trees.specs.declared.parts.Measure.TheVariants as measures
 use Rattle.typing.proofs.Kept.{Gives, then_more, gives_ok, gives_fault, gives_after, in_turn, required, is_found}
 use Rattle.typing.proofs.NamesBack.{bound_entity, is_bound, Binds}
@@ -466,9 +465,7 @@ module _ (within : Within) (known : Known) (sees : Sees within known) (given : G
       in_turn (port_holds (place_of given.name) given.arguments.trees) λ port low.
       gives_after (without_member given.member) λ none.
       gives_ok (holding_at (λ tables has. low))
-  built_in_holds built_in_names.Low = unary_holds functions.Low
-  built_in_holds built_in_names.High = unary_holds functions.High
-  built_in_holds built_in_names.Double = unary_holds functions.Double
+  built_in_holds (built_in_names.Unary function) = unary_holds function
   built_in_holds built_in_names.Length = variable_holds measures.Length
   built_in_holds built_in_names.Last = variable_holds measures.Last
   built_in_holds built_in_names.Size = variable_holds measures.Size

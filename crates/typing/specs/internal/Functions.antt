@@ -13,8 +13,7 @@ use Rattle.typed_trees.specs.declared.parts.Measure.{Measure}
 use Rattle.typed_trees.specs.declared.parts.Measure.TheVariants as measures
 use Rattle.typed_trees.specs.declared.parts.ShiftFunction.{ShiftFunction}
 use Rattle.typed_trees.specs.declared.parts.ShiftFunction.TheVariants as shifts
-use Rattle.typed_trees.specs.declared.parts.UnaryFunction.{UnaryFunction}
-use Rattle.typed_trees.specs.declared.parts.UnaryFunction.TheVariants as functions
+use Rattle.trees.specs.declared.functions.UnaryFunction.{UnaryFunction}
 use Rattle.typed_trees.specs.declared.parts.NumberOrigin.TheVariants.{FromMeasure}
 use Rattle.typed_trees.specs.TypedTrees.{TypedExpression, NumberNode, ValueNode, CallNode, FunctionNode, InputNode, TypedArguments, NoArguments as NoTyped, MoreArguments as MoreTyped, TypedObject, TypedProcedure, Constants}
 use Rattle.typed_trees.specs.Sizes.{size_of_member, size_of_object, member_named}
@@ -82,7 +81,7 @@ measurement known of place (MoreArguments (ReferenceLeaf (ReferenceTo name NoArg
   Ok (measure_node of measured value)
 measurement known measure place trees = refuse NotMeasurable place
 
--- LOW, HIGH and DOUBLE of one value
+-- a built-in function of one value
 abbrev pub function_of : UnaryFunction → (place : Place) → TypedArguments → Checked TypedExpression
 function_of function place (MoreTyped operand NoTyped) = Ok (FunctionNode function operand)
 function_of function place values = refuse ArgumentCount place
@@ -127,9 +126,7 @@ abbrev pub built_in_value :
     Known → BuiltIn → GivenReference → Constants → Checked (TypedExpression × Constants)
 built_in_value known built_ins.Input given constants = input_value given constants
 built_in_value known built_ins.Output given constants = refuse ValueOfUntyped (place_of given.name)
-built_in_value known built_ins.Low given constants = unary_function functions.Low given constants
-built_in_value known built_ins.High given constants = unary_function functions.High given constants
-built_in_value known built_ins.Double given constants = unary_function functions.Double given constants
+built_in_value known (built_ins.Unary function) given constants = unary_function function given constants
 built_in_value known built_ins.Length given constants =
     number_of_variable known measures.Length given constants
 built_in_value known built_ins.Last given constants = number_of_variable known measures.Last given constants

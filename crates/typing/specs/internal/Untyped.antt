@@ -11,8 +11,8 @@ use Rattle.typed_trees.specs.declared.parts.Measure.{Measure}
 use Rattle.typed_trees.specs.declared.parts.Measure.TheVariants.{Length, Last, Size}
 use Rattle.typed_trees.specs.declared.parts.ShiftFunction.{ShiftFunction}
 use Rattle.typed_trees.specs.declared.parts.ShiftFunction.TheVariants.{ShiftLeft, ShiftRight, RotateLeft, RotateRight}
-use Rattle.typed_trees.specs.declared.parts.UnaryFunction.{UnaryFunction}
-use Rattle.typed_trees.specs.declared.parts.UnaryFunction.TheVariants.{Low, High, Double}
+use Rattle.trees.specs.declared.functions.UnaryFunction.{UnaryFunction}
+use Rattle.trees.specs.declared.functions.UnaryFunction.TheVariants.{Low, High, Double}
 use Rattle.typed_trees.specs.TypedTrees as typed
 use Rattle.typed_trees.specs.declared.parts.NumberOrigin.TheVariants.{FromDigits, FromString, FromMeasure}
 use Rattle.typed_trees.specs.declared.parts.NumberOrigin.{NumberOrigin}
