@@ -14,7 +14,7 @@ use operands8080::plan_byte_in_memory;
 use std::alloc::AllocError;
 use steps8080::{Site, Steps, Task, copy, low};
 use treecode::{ExpressionForm, ExpressionNumber, Place, Range, Target};
-use trees::{ScalarType, UnaryFunction, UnaryOperator};
+use trees::{ByteOfValue, ScalarType, UnaryFunction, UnaryOperator};
 
 // Puts the low byte of a known value into A.
 #[tactic(auto, unfolding(crate::specs::internal::Bytes::known_byte_steps))]
@@ -95,7 +95,7 @@ fn plan_called_byte(
     plan_low_of_value(site.scalar(number), steps)
 }
 
-// Puts the low byte of LOW, HIGH or DOUBLE of a value into A.
+// Puts the low byte of a function of one value into A.
 #[tactic(auto, unfolding(crate::specs::internal::Bytes::byte_function_steps))]
 fn plan_byte_function(
     site: &Site<'_>,
@@ -106,9 +106,9 @@ fn plan_byte_function(
 ) -> Result<(), AllocError>
     ensures { OnOk result (Adds steps.old steps.new (byte_function_steps site.now function operand pushed)) }
 {
-    match function {
-        UnaryFunction::Low | UnaryFunction::Double => steps.part(Task::Byte(operand), pushed),
-        UnaryFunction::High => plan_high_byte(site, operand, pushed, steps),
+    match function.byte_taken() {
+        ByteOfValue::LowByte => steps.part(Task::Byte(operand), pushed),
+        ByteOfValue::HighByte => plan_high_byte(site, operand, pushed, steps),
     }
 }
 

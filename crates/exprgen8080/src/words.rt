@@ -2,7 +2,7 @@
 
 ghost use Rattle.std.specs.Prelude.{OnOk};
 ghost use Rattle.steps8080.specs.internal.Step.{Adds};
-ghost use Rattle.exprgen8080.specs.internal.Words.{extended_byte_steps, word_form_steps, word_function_steps, word_of_two_steps, word_steps, word_unary_steps};
+ghost use Rattle.exprgen8080.specs.internal.Words.{extended_byte_steps, word_form_steps, word_of_two_steps, word_steps, word_unary_steps};
 
 use crate::byte_operators::Operands;
 use crate::byte_shifts::Shifted;
@@ -15,7 +15,7 @@ use operands8080::{plan_extended_byte_in_memory, plan_location_address, plan_wor
 use std::alloc::AllocError;
 use steps8080::{Site, Steps, Task, clear_a, copy, plan_extension, set, with_register};
 use treecode::{ExpressionForm, ExpressionNumber, Location};
-use trees::{ScalarType, UnaryFunction, UnaryOperator};
+use trees::{ScalarType, UnaryOperator};
 
 // Replaces the word in HL by NOT or `-` of it.
 #[tactic(auto, unfolding(crate::specs::internal::Words::word_unary_steps))]
@@ -59,23 +59,6 @@ fn plan_extended_byte(
     plan_extension(steps)
 }
 
-// Puts LOW, HIGH or DOUBLE of a value, as an ADDRESS, into HL.
-#[tactic(auto, unfolding(crate::specs::internal::Words::word_function_steps))]
-fn plan_word_function(
-    function: UnaryFunction,
-    operand: ExpressionNumber,
-    pushed: u16,
-    steps: &mut Steps,
-) -> Result<(), AllocError>
-    ensures { OnOk result (Adds steps.old steps.new (word_function_steps function operand pushed)) }
-{
-    match function {
-        UnaryFunction::Double => steps.part(Task::Word(operand), pushed),
-        // These two give a BYTE.
-        UnaryFunction::Low | UnaryFunction::High => Ok(()),
-    }
-}
-
 // Puts the result of an operator with two ADDRESS operands, or of a shift of an ADDRESS, into HL. It is not called with
 // other forms.
 #[tactic(auto, unfolding(crate::specs::internal::Words::word_of_two_steps))]
@@ -110,7 +93,7 @@ fn plan_word_of_two(
     }
 }
 
-// Puts the value of an ADDRESS expression that is not known into HL.
+// Puts the value of an ADDRESS expression that is not known into HL. A function that gives an ADDRESS gives its operand.
 #[tactic(auto, unfolding(crate::specs::internal::Words::word_form_steps))]
 fn plan_word_form(
     site: &Site<'_>,
@@ -124,9 +107,7 @@ fn plan_word_form(
         ExpressionForm::Value(reference) => plan_word_in_memory(site, &reference, pushed, steps),
         ExpressionForm::Location(reference) => steps.part(Task::Address(reference), pushed),
         ExpressionForm::Conversion(inner) => steps.part(Task::Word(inner), pushed),
-        ExpressionForm::Function { function, operand } => {
-            plan_word_function(function, operand, pushed, steps)
-        }
+        ExpressionForm::Function { operand, .. } => steps.part(Task::Word(operand), pushed),
         ExpressionForm::Unary { operator, operand } => {
             steps.part(Task::Word(operand), pushed)?;
             plan_word_unary(operator, steps)

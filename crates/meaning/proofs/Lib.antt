@@ -13,3 +13,4 @@ pub mod Flows
 pub mod Staying
 pub mod LabelPlaces
 pub mod Powers
+pub mod FunctionResults

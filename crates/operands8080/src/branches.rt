@@ -12,7 +12,7 @@ use isa8080::{Condition, Instr};
 use std::alloc::AllocError;
 use steps8080::{Comparison, LabelNumber, Site, Steps, Task, relation_of};
 use treecode::{ExpressionForm, ExpressionNumber};
-use trees::{BinaryOperator, UnaryFunction, UnaryOperator};
+use trees::{BinaryOperator, ByteOfValue, UnaryOperator};
 
 /// A jump to a label if a condition holds (`sense`), or if it does not.
 #[derive(Clone, Copy)]
@@ -187,10 +187,10 @@ fn shape_of_form(site: &Site<'_>, form: ExpressionForm) -> Shape
 {
     match form {
         ExpressionForm::Conversion(inner) => Shape::SameAs(inner),
-        ExpressionForm::Function {
-            function: UnaryFunction::Low | UnaryFunction::Double,
-            operand,
-        } => Shape::SameAs(operand),
+        ExpressionForm::Function { function, operand } => match function.byte_taken() {
+            ByteOfValue::LowByte => Shape::SameAs(operand),
+            ByteOfValue::HighByte => Shape::Other,
+        },
         ExpressionForm::Unary {
             operator: UnaryOperator::Not,
             operand,

@@ -1,7 +1,8 @@
 -- The meaning of an expression with a known value: that value, without a change of the state.
-use Rattle.treecode.proofs.Prelude.{◌≡◌, ℕ, ◌+◌, ◌-◌, ◌%◌, ◌<◌, ◌&&◌, List, Option, Some, None, option_map, refl, sym, ap, ◌∙◌, arith, length, option_and_then, mul-mod_second, ScalarType, Byte, Address, BinaryOperator, UnaryOperator, ShiftFunction, UnaryFunction, Low, High, Double, type_of, type_of_function, type_of_result, TypedExpression, NumberNode, ValueNode, LocationNode, ListNode, ConversionNode, AssignmentNode, UnaryNode, BinaryNode, CallNode, FunctionNode, ShiftNode, InputNode, TypedReference, PartOf, Subscript, NoSubscript, At, Storage, Surroundings, home_of, Displacement, Later, address_in_memory, based_place, computed, displaced, displacement, located, no_displacement, value, State, Outcome, Gave, then_do, as_type, function_of, result_of, result_of_one, shifted, Home, Place, Number, Code, Data, External, place_after, converted_place, function_of_place, known_distance, known_number, known_place, known_subscript, known_value, place_of_part, result_of_known, shift_of_known, home_at, mul_comm, sum_turned}
+use Rattle.treecode.proofs.Prelude.{◌≡◌, ℕ, ◌+◌, ◌-◌, ◌%◌, ◌<◌, ◌&&◌, List, Option, Some, None, option_map, refl, sym, ap, ◌∙◌, arith, length, option_and_then, mul-mod_second, ScalarType, Byte, Address, BinaryOperator, UnaryOperator, ShiftFunction, UnaryFunction, type_of, type_of_function, type_of_result, TypedExpression, NumberNode, ValueNode, LocationNode, ListNode, ConversionNode, AssignmentNode, UnaryNode, BinaryNode, CallNode, FunctionNode, ShiftNode, InputNode, TypedReference, PartOf, Subscript, NoSubscript, At, Storage, Surroundings, home_of, Displacement, Later, address_in_memory, based_place, computed, displaced, displacement, located, no_displacement, value, State, Outcome, Gave, then_do, as_type, function_of, result_of, result_of_one, shifted, Home, Place, Number, Code, Data, External, place_after, converted_address, converted_place, function_of_place, known_distance, known_number, known_place, known_subscript, known_value, place_of_part, result_of_known, shift_of_known, home_at, mul_comm, sum_turned}
 use Rattle.trees.specs.declared.expression.BinaryOperator.TheVariants as operators
 use Rattle.treecode.specs.declared.place.Home.TheVariants as homes
+use Rattle.meaning.proofs.FunctionResults.{operand_given}
 use Rattle.treecode.specs.internal.Resolved.{Resolves, HaveOperands, SubscriptHasOperands, PartHasOperands}
 
 -- a relocatable address is an ADDRESS
@@ -56,6 +57,15 @@ module _ (around : Surroundings) (starts : List Home) (storage : Storage) (addre
   tells_conversion Address of (Some (External o n)) outcome told =
       (stays (External o n) outcome (resolves.below (External o n) refl) told.0, refl)
 
+  tells_address : (function : UnaryFunction) (scalar : ScalarType) → type_of_function function ≡ scalar
+      → (place : Place) (outcome : State → Outcome ℕ) → IsAddress place Address
+      → ((s : State) → outcome s ≡ Gave (address place) s)
+      → Tells (converted_address scalar place) scalar
+      (λ s. then_do (outcome s) (λ number t. Gave (function_of function number) t))
+  tells_address function Byte is place outcome kind told = tt
+  tells_address function Address is place outcome kind told =
+      ((λ (s : State). gives _ s (told s) ∙ give s (operand_given function is (address place))), kind)
+
   tells_function : (function : UnaryFunction) (of : ScalarType) (known : Option Place) (outcome : State
       → Outcome ℕ)
       → Tells known of outcome
@@ -68,15 +78,12 @@ module _ (around : Surroundings) (starts : List Home) (storage : Storage) (addre
         ∙ sym (resolves.number (function_of function n)))),
     tt,
   )
-  tells_function Low of (Some (Code o)) outcome told = tt
-  tells_function High of (Some (Code o)) outcome told = tt
-  tells_function Double of (Some (Code o)) outcome told = ((λ (s : State). gives _ s (told.0 s)), refl)
-  tells_function Low of (Some (Data o)) outcome told = tt
-  tells_function High of (Some (Data o)) outcome told = tt
-  tells_function Double of (Some (Data o)) outcome told = ((λ (s : State). gives _ s (told.0 s)), refl)
-  tells_function Low of (Some (External o n)) outcome told = tt
-  tells_function High of (Some (External o n)) outcome told = tt
-  tells_function Double of (Some (External o n)) outcome told = ((λ (s : State). gives _ s (told.0 s)), refl)
+  tells_function function of (Some (Code o)) outcome told =
+      tells_address function (type_of_function function) refl (Code o) outcome refl told.0
+  tells_function function of (Some (Data o)) outcome told =
+      tells_address function (type_of_function function) refl (Data o) outcome refl told.0
+  tells_function function of (Some (External o n)) outcome told =
+      tells_address function (type_of_function function) refl (External o n) outcome refl told.0
 
   tells_unary : (scalar of : ScalarType) (operator : UnaryOperator) (known : Option Place) (outcome : State
       → Outcome ℕ)

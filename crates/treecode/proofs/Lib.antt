@@ -2,6 +2,7 @@ mod Prelude
 pub mod Maxima
 pub mod HighestArguments
 pub mod SameTraits
+pub mod TakenBytes
 pub mod SameMemory
 pub mod TraitsKept
 pub mod Grown

@@ -1,5 +1,5 @@
 -- Lowered tree code refers only to EXTERNAL names of its module.
-use Rattle.treecode.proofs.Prelude.{result_of, result_of_one, shifted, ◌≡◌, ℕ, zero, suc, ◌+◌, ◌-◌, ◌<◌, ◌==◌, ◌||◌, ◌∙◌, Bool, true, false, min, refl, sym, ap, subst, arith, List, [], ◌∷◌, ◌++◌, length, map, zip, Option, Some, None, is_some, slice_get, slice_index_or, slice_get-map, slice_get_within, none-some, same_Some, option_map, option_map_or, option_and_then, cons_option, enumerate_from, filter_map, ScalarType, Byte, Address, BinaryOperator, UnaryFunction, TypedHome, InConstants, InData, Placed, BasedOn, Elsewhere, Nowhere, InFrame, TypedModule, TypedObject, TypedProcedure, Storage, Expression, ExpressionForm, ExpressionNumber, ExternalName, Home, Place, Code, Data, External, Number, TreeModule, TreeProcedure, Nodes, home_at, nodes_of, KeepTraits, NumbersRise, PartsAreBelow, known_at, known_of, distance_of, number_at, no_traits, traits_of, converted_place, function_of_place, place_of_part, result_of_known, shift_of_known, external_from, external_name, external_number, external_place, externals_of, home_of_object, homes_from, homes_of, is_global_object, is_global_procedure, kind_with, latest, parameter_at, parameters_of, place_after, content_of, constants_from, variables_from, with_gap, size_of_value}
+use Rattle.treecode.proofs.Prelude.{result_of, result_of_one, shifted, ◌≡◌, ℕ, zero, suc, ◌+◌, ◌-◌, ◌<◌, ◌==◌, ◌||◌, ◌∙◌, Bool, true, false, min, refl, sym, ap, subst, arith, List, [], ◌∷◌, ◌++◌, length, map, zip, Option, Some, None, is_some, slice_get, slice_index_or, slice_get-map, slice_get_within, none-some, same_Some, option_map, option_map_or, option_and_then, cons_option, enumerate_from, filter_map, ScalarType, Byte, Address, BinaryOperator, UnaryFunction, TypedHome, InConstants, InData, Placed, BasedOn, Elsewhere, Nowhere, InFrame, TypedModule, TypedObject, TypedProcedure, Storage, Expression, ExpressionForm, ExpressionNumber, ExternalName, Home, Place, Code, Data, External, Number, TreeModule, TreeProcedure, Nodes, home_at, nodes_of, KeepTraits, NumbersRise, PartsAreBelow, known_at, known_of, distance_of, number_at, no_traits, traits_of, converted_address, converted_place, function_of_place, place_of_part, result_of_known, shift_of_known, external_from, external_name, external_number, external_place, externals_of, home_of_object, homes_from, homes_of, is_global_object, is_global_procedure, kind_with, latest, parameter_at, parameters_of, place_after, content_of, constants_from, variables_from, with_gap, size_of_value}
 use Rattle.std.proofs.lemmas.Bool.{eq-eqb, eqb-true}
 use Rattle.std.specs.List.{AllByRecursion, list_any}
 use Rattle.std.specs.Prelude.{IfSome, if◌then◌else◌, ◌%◌, ◌&&◌, nat_le, nat_lt, sum_by}
@@ -13,7 +13,7 @@ use Rattle.typed_trees.specs.declared.parts.GlobalItem.{GlobalItem}
 use Rattle.typed_trees.specs.declared.parts.GlobalItem.TheVariants.{GlobalObject, GlobalProcedure}
 use Rattle.typed_trees.specs.declared.parts.InitialValue.{InitialValue}
 use Rattle.typed_trees.specs.declared.parts.InitialValue.TheVariants.{ByteValue, LocationValue, WordValue}
-use Rattle.trees.specs.declared.functions.UnaryFunction.TheVariants.{Double}
+use Rattle.trees.specs.Functions.{type_of_function}
 use Rattle.typed_trees.specs.declared.parts.Visibility.{Visibility}
 use Rattle.typed_trees.specs.declared.parts.Visibility.TheVariants as visibilities
 use Rattle.layout.specs.declared.slot.Segment.TheVariants as segments
@@ -224,13 +224,17 @@ module _ (count : ℕ) where
   part_named (homes.Based base) offset first second is = tt
   part_named (homes.Frame variable) offset first second is = tt
 
+  address_named : (scalar : ScalarType) (place : Place) → PlaceIsNamed count place
+      → IfSome (converted_address scalar place) (PlaceIsNamed count)
+  address_named Byte place is = tt
+  address_named Address place is = is
+
   converted_named : (scalar : ScalarType) (known : Option Place)
       → IfSome known (PlaceIsNamed count)
       → IfSome (option_and_then (converted_place scalar) known) (PlaceIsNamed count)
   converted_named scalar None is = tt
   converted_named scalar (Some (Number number)) is = tt
-  converted_named Byte (Some place) is = tt
-  converted_named Address (Some place) is = is
+  converted_named scalar (Some place) is = address_named scalar place is
 
   mapped_named : (of : ℕ → ℕ) (found : Option ℕ)
       → IfSome (option_map (λ number. Number (of number)) found) (PlaceIsNamed count)
@@ -272,8 +276,7 @@ module _ (count : ℕ) where
       → IfSome (option_and_then (function_of_place function) known) (PlaceIsNamed count)
   function_named function None is = tt
   function_named function (Some (Number number)) is = tt
-  function_named Double (Some place) is = is
-  function_named function (Some place) is = tt
+  function_named function (Some place) is = address_named (type_of_function function) place is
 
   shift_named : (shift : ℕ → ℕ → ℕ) (number by : Option ℕ)
       → IfSome (shift_of_known shift number by) (PlaceIsNamed count)

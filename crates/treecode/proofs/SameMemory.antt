@@ -1,7 +1,8 @@
 -- The memory of a form, and the registers that its code keeps, are the same when nodes are added.
-use Rattle.treecode.proofs.Prelude.{◌≡◌, ℕ, ◌<◌, ◌≤◌, ◌&&◌, Bool, false, List, Option, Some, None, is_some, slice_get, refl, sym, ap, ◌∙◌, arith, cond, nat_lt, option_map_or, option_and_then, ScalarType, BinaryOperator, ShiftFunction, ShiftLeft, ShiftRight, RotateLeft, RotateRight, Low, High, Double, Expression, ExpressionForm, ExpressionNumber, Home, Place, Reference, Target, Traits, known_number, Nodes, home_at, byte_after, form_at, has_immediate, high_in_memory, is_direct, is_free_form, is_free_of, is_free_with, is_of_low_byte, keeps_none, keeps_of, keeps_of_address, keeps_of_binary, keeps_of_byte, keeps_of_extended, keeps_of_form, keeps_of_index, keeps_of_part, keeps_of_shift, keeps_of_subscript, keeps_of_value, height_of_form, is_quiet_form, stores_nothing_in_form, known_of, memory_of_form, memory_of_inner, number_at, place_of_reference, same_low_byte, traits_at, traits_of, SubscriptIsBelow, ReferenceIsBelow, TargetIsBelow, PartsAreBelow, NumbersRise}
+use Rattle.treecode.proofs.Prelude.{◌≡◌, ℕ, ◌<◌, ◌≤◌, ◌&&◌, Bool, false, List, Option, Some, None, is_some, slice_get, refl, sym, ap, ◌∙◌, arith, cond, nat_lt, option_map_or, option_and_then, ScalarType, BinaryOperator, ShiftFunction, ShiftLeft, ShiftRight, RotateLeft, RotateRight, byte_taken, for_byte, Expression, ExpressionForm, ExpressionNumber, Home, Place, Reference, Target, Traits, known_number, Nodes, home_at, byte_after, form_at, has_immediate, high_in_memory, is_direct, is_free_form, is_free_of, is_free_with, is_of_low_byte, keeps_none, keeps_of, keeps_of_address, keeps_of_binary, keeps_of_byte, keeps_of_extended, keeps_of_form, keeps_of_index, keeps_of_part, keeps_of_shift, keeps_of_subscript, keeps_of_value, height_of_form, is_quiet_form, stores_nothing_in_form, known_of, memory_of_form, memory_of_inner, number_at, place_of_reference, same_low_byte, traits_at, traits_of, SubscriptIsBelow, ReferenceIsBelow, TargetIsBelow, PartsAreBelow, NumbersRise}
 use Rattle.trees.specs.declared.declaration.ScalarType.TheVariants as scalars
 use Rattle.trees.specs.declared.expression.BinaryOperator.TheVariants as operators
+use Rattle.trees.proofs.TakenBytes.{by_byte}
 use Rattle.treecode.specs.declared.expression.ExpressionForm.TheVariants as forms
 use Rattle.treecode.specs.declared.reference.Subscript.{Subscript}
 use Rattle.treecode.specs.declared.reference.Target.TheVariants as targets
@@ -91,18 +92,17 @@ module _ (before after : Nodes) (bound : ℕ)
   low_byte_below : (form : ExpressionForm) → PartsAreBelow before bound form
       → PartsAreBelow before bound (same_low_byte before form)
   low_byte_below (forms.Conversion inner) below = form_below inner (forms.Conversion inner) below below
-  low_byte_below (forms.Function Low operand) below =
-      form_below operand (forms.Function Low operand) below below
-  low_byte_below (forms.Function Double operand) below =
-      form_below operand (forms.Function Double operand) below below
+  low_byte_below (forms.Function function operand) below =
+      by_byte (λ form. PartsAreBelow before bound form) (byte_taken function) _ _
+      (λ _. form_below operand (forms.Function function operand) below below) (λ _. below)
   low_byte_below form below = below
 
   low_byte_same : (form : ExpressionForm) → PartsAreBelow before bound form
       → same_low_byte after form ≡ same_low_byte before form
   low_byte_same (forms.Conversion inner) below = form_same inner (forms.Conversion inner) below
-  low_byte_same (forms.Function Low operand) below = form_same operand (forms.Function Low operand) below
-  low_byte_same (forms.Function Double operand) below =
-      form_same operand (forms.Function Double operand) below
+  low_byte_same (forms.Function function operand) below =
+      ap (λ (found : ExpressionForm). for_byte (byte_taken function) found (forms.Function function operand))
+      (form_same operand (forms.Function function operand) below)
   low_byte_same form below = refl
 
   high_same : (operand : ExpressionNumber) → operand.index < bound
@@ -135,13 +135,16 @@ module _ (before after : Nodes) (bound : ℕ)
 
   inner_same : (form : ExpressionForm) → PartsAreBelow before bound form
       → memory_of_inner after form ≡ memory_of_inner before form
-  inner_same (forms.Function High operand) below = high_same operand below
+  inner_same (forms.Function function operand) below =
+      ap (λ (found : Option Reference). for_byte (byte_taken function) None found) (high_same operand below)
   inner_same (forms.Value reference) below = refl
   inner_same form below = refl
 
   inner_below : (form : ExpressionForm) → PartsAreBelow before bound form
       → FoundIsBelow bound (memory_of_inner before form)
-  inner_below (forms.Function High operand) below = high_below operand below
+  inner_below (forms.Function function operand) below =
+      by_byte (λ found. FoundIsBelow bound found) (byte_taken function) _ _ (λ _. tt)
+      (λ _. high_below operand below)
   inner_below (forms.Value reference) below = below
   inner_below form below = tt
 
@@ -204,11 +207,10 @@ module _ (before after : Nodes) (bound : ℕ)
   free_form_same scalar (forms.Binary operands operator left right) below =
       ap (λ (one : Bool). has_immediate operator && one) (free_with_same left right below.0 below.1)
   free_form_same scalar (forms.Call procedure arguments) below = refl
-  free_form_same scalar (forms.Function High operand) below = direct_same (forms.Function High operand) below
-  free_form_same scalar (forms.Function Low operand) below =
-      ap (λ (t : Traits). t.is_free) (traits_same operand below)
-  free_form_same scalar (forms.Function Double operand) below =
-      ap (λ (t : Traits). t.is_free) (traits_same operand below)
+  free_form_same scalar (forms.Function function operand) below =
+      same_of_both (λ (free direct : Bool). for_byte (byte_taken function) free direct)
+      (ap (λ (t : Traits). t.is_free) (traits_same operand below))
+      (direct_same (forms.Function function operand) below)
   free_form_same scalar (forms.Shift function value count) below =
       ap (λ (one : Bool). is_of_low_byte scalar function && one) (free_with_same value count below.0 below.1)
   free_form_same scalar (forms.Input port) below = refl

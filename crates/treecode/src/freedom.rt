@@ -9,7 +9,7 @@ use crate::known::place_of;
 use crate::memory::memory_of;
 use crate::module::TreeModule;
 use crate::place::Place;
-use trees::{BinaryOperator, ScalarType, UnaryFunction};
+use trees::{BinaryOperator, ByteOfValue, ScalarType};
 use typed_trees::ShiftFunction;
 
 // Whether the low byte of an expression of this form is in memory at a known place.
@@ -78,17 +78,14 @@ pub(crate) fn is_free(
     }
     match form {
         ExpressionForm::Input(_) => true,
-        ExpressionForm::Conversion(operand)
-        | ExpressionForm::Unary { operand, .. }
-        | ExpressionForm::Function {
-            function: UnaryFunction::Low | UnaryFunction::Double,
-            operand,
-        } => tree.traits(*operand).is_free,
-        ExpressionForm::Value(_)
-        | ExpressionForm::Function {
-            function: UnaryFunction::High,
-            ..
-        } => is_direct(tree, form),
+        ExpressionForm::Conversion(operand) | ExpressionForm::Unary { operand, .. } => {
+            tree.traits(*operand).is_free
+        }
+        ExpressionForm::Value(_) => is_direct(tree, form),
+        ExpressionForm::Function { function, operand } => match function.byte_taken() {
+            ByteOfValue::LowByte => tree.traits(*operand).is_free,
+            ByteOfValue::HighByte => is_direct(tree, form),
+        },
         ExpressionForm::Binary {
             operator,
             left,

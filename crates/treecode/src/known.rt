@@ -49,14 +49,14 @@ fn converted(scalar: ScalarType, known: Option<Place>) -> Option<Place>
     }
 }
 
-// The result of LOW, HIGH or DOUBLE on a known value.
+// The result of a function of one known value.
 fn function_value(function: UnaryFunction, known: Option<Place>) -> Option<Place>
     ensures { result ≡ option_and_then (function_of_place function) known }
 {
-    match (function, known?) {
+    match (function.scalar(), known?) {
         (_, Place::Number(number)) => Some(Place::Number(unary_function(function, number))),
-        (UnaryFunction::Double, place) => Some(place),
-        (UnaryFunction::Low | UnaryFunction::High, _) => None,
+        (ScalarType::Address, place) => Some(place),
+        (ScalarType::Byte, _) => None,
     }
 }
 

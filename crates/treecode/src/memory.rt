@@ -7,18 +7,19 @@ ghost use Rattle.treecode.specs.internal.Traits.{high_in_memory, memory_of_form,
 use crate::expression::{ExpressionForm, ExpressionNumber};
 use crate::module::TreeModule;
 use crate::reference::Reference;
-use trees::{ScalarType, UnaryFunction};
+use trees::{ByteOfValue, ScalarType};
 
-// The form inside LOW, DOUBLE or a conversion, which has the same low byte; else the form itself.
+// The form of the operand of a conversion, or of a function that takes its low byte, which has the same low byte; else
+// the form itself.
 fn same_low_byte(tree: &TreeModule, form: ExpressionForm) -> ExpressionForm
     ensures { result ≡ same_low_byte (nodes_of tree.now) form }
 {
     let inner = match form {
         ExpressionForm::Conversion(inner) => inner,
-        ExpressionForm::Function {
-            function: UnaryFunction::Low | UnaryFunction::Double,
-            operand,
-        } => operand,
+        ExpressionForm::Function { function, operand } => match function.byte_taken() {
+            ByteOfValue::LowByte => operand,
+            ByteOfValue::HighByte => return form,
+        },
         _ => return form,
     };
     match tree.expression(inner) {
@@ -27,7 +28,7 @@ fn same_low_byte(tree: &TreeModule, form: ExpressionForm) -> ExpressionForm
     }
 }
 
-// The part of memory that holds HIGH of an expression, if any.
+// The part of memory that holds the high byte of an expression, if any.
 fn high_in_memory(tree: &TreeModule, operand: ExpressionNumber) -> Option<Reference>
     ensures { result ≡ high_in_memory (nodes_of tree.now) operand }
 {
@@ -41,17 +42,17 @@ fn high_in_memory(tree: &TreeModule, operand: ExpressionNumber) -> Option<Refere
     }
 }
 
-/// The part of memory that holds the low byte of an expression of this form, if it is a scalar, or LOW, HIGH, DOUBLE or
-/// a conversion of one.
+/// The part of memory that holds the low byte of an expression of this form, if it is a scalar, or a conversion or a
+/// function of one.
 pub(crate) fn memory_of(tree: &TreeModule, form: ExpressionForm) -> Option<Reference>
     ensures { result ≡ memory_of_form (nodes_of tree.now) form }
 {
     match same_low_byte(tree, same_low_byte(tree, form)) {
         ExpressionForm::Value(reference) => Some(reference),
-        ExpressionForm::Function {
-            function: UnaryFunction::High,
-            operand,
-        } => high_in_memory(tree, operand),
+        ExpressionForm::Function { function, operand } => match function.byte_taken() {
+            ByteOfValue::LowByte => None,
+            ByteOfValue::HighByte => high_in_memory(tree, operand),
+        },
         _ => None,
     }
 }

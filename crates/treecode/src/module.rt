@@ -100,7 +100,8 @@ impl TreeModule {
         }
     }
 
-    /// The expression inside LOW, DOUBLE or a conversion, which has the same low byte; else the expression itself.
+    /// The operand of a conversion, or of a function that takes its low byte, which has the same low byte; else the
+    /// expression itself.
     pub fn same_low_byte(&self, number: ExpressionNumber) -> ExpressionNumber
         ensures { result ≡ low_byte_at self.now number }
     {

@@ -11,7 +11,7 @@ use crate::place::Place;
 use crate::reference::{Reference, Subscript, Target};
 use crate::traits::{Keeps, Traits};
 use std::marker::Model;
-use trees::{BinaryOperator, ScalarType, UnaryFunction, UnaryOperator};
+use trees::{BinaryOperator, ByteOfValue, ScalarType, UnaryFunction, UnaryOperator};
 use typed_trees::ShiftFunction;
 
 /// A subscript, if any.
@@ -381,16 +381,16 @@ impl StoredExpression {
         }
     }
 
-    /// The expression inside LOW, DOUBLE or a conversion; else the number of the expression itself.
+    /// The operand of a conversion, or of a function that takes its low byte; else the number of the expression itself.
     pub(crate) fn same_low_byte(&self, number: ExpressionNumber) -> ExpressionNumber
         ensures { result ≡ inside number self.now.form }
     {
         match self.form {
             StoredForm::Conversion(inner) => inner,
-            StoredForm::Function {
-                function: UnaryFunction::Low | UnaryFunction::Double,
-                operand,
-            } => operand,
+            StoredForm::Function { function, operand } => match function.byte_taken() {
+                ByteOfValue::LowByte => operand,
+                ByteOfValue::HighByte => number,
+            },
             _ => number,
         }
     }

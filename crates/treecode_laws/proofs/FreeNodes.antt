@@ -1,6 +1,8 @@
 -- Known and free nodes store nothing.
-use Rattle.treecode_laws.proofs.Prelude.{◌≡◌, ◌⊎◌, inl, inr, ℕ, ◌+◌, ◌%◌, true, false, Option, Some, None, is_some, option_map, slice_get, refl, sym, ap, ◌∙◌, option_map_or, option_and_then, and_from, and_parts, ScalarType, Byte, Address, Low, High, Double, TypedExpression, TypedReference, Subscript, Storage, Expression, ExpressionForm, ExpressionNumber, Home, Place, Reference, IndexNode, Traits, place_of_part, IsExpression, IsNode, IsForm, IsNumber, IsValue, IsLocation, IsConstantList, IsConversion, IsEmbedded, IsUnary, IsBinary, IsCallOf, IsFunction, IsShift, IsInput, IsReference, IsPart, IsSubscript, IsAbsent, IsIndex, Nodes, home_at, KeepTraits, byte_after, distance_of, free_at, has_immediate, is_direct, is_free_form, is_free_of, is_free_with, is_of_low_byte, known_at, known_of, number_at, place_of_reference, traits_of, node_traits, stores_nothing, part_stores_nothing, index_stores_nothing, false≢true, known_of_node}
+use Rattle.treecode_laws.proofs.Prelude.{◌≡◌, ◌⊎◌, inl, inr, ℕ, ◌+◌, ◌%◌, true, false, Option, Some, None, is_some, option_map, slice_get, refl, sym, ap, ◌∙◌, option_map_or, option_and_then, and_from, and_parts, ScalarType, Byte, Address, UnaryFunction, HighByte, byte_taken, TypedExpression, TypedReference, Subscript, Storage, Expression, ExpressionForm, ExpressionNumber, Home, Place, Reference, IndexNode, Traits, place_of_part, IsExpression, IsNode, IsForm, IsNumber, IsValue, IsLocation, IsConstantList, IsConversion, IsEmbedded, IsUnary, IsBinary, IsCallOf, IsFunction, IsShift, IsInput, IsReference, IsPart, IsSubscript, IsAbsent, IsIndex, Nodes, home_at, KeepTraits, byte_after, distance_of, free_at, has_immediate, is_direct, is_free_form, is_free_of, is_free_with, is_of_low_byte, known_at, known_of, number_at, place_of_reference, traits_of, node_traits, stores_nothing, part_stores_nothing, index_stores_nothing, false≢true, known_of_node}
+use Rattle.trees.proofs.TakenBytes.{by_byte}
 use Rattle.treecode.specs.declared.expression.ExpressionForm.TheVariants as forms
+use Rattle.treecode.proofs.TakenBytes.{memory_of_high}
 use Rattle.treecode.specs.declared.place.Home.TheVariants as homes
 
 -- a result that depends on a value is there only if the value is
@@ -131,16 +133,22 @@ module _ (nodes : Nodes) (storage : Storage) (keeps : KeepTraits nodes) where
   high_in_place Address IsInput direct = refl
 
   high_stores_nothing : {bound : ℕ} {operand : ExpressionNumber} {tree : TypedExpression}
+      (function : UnaryFunction) → byte_taken function ≡ HighByte
       → IsExpression nodes storage bound operand.index tree
-      → is_direct nodes (forms.Function High operand) ≡ true
+      → is_direct nodes (forms.Function function operand) ≡ true
       → stores_nothing tree ≡ true
-  high_stores_nothing {operand = operand} (IsNode {expression = expression} below at scalar form) direct =
+  high_stores_nothing {operand = operand} function high
+      (IsNode {expression = expression} below at scalar form) direct =
       high_in_place expression.traits.scalar form
       (ap
       (λ (found : Option Expression).
       option_map_or (λ (reference : Reference). is_some (place_of_reference nodes reference))
       (option_and_then (λ (one : Expression). byte_after one.traits.scalar one.form) found) false)
       (sym at)
+      ∙ ap
+      (λ (found : Option Reference).
+      option_map_or (λ (reference : Reference). is_some (place_of_reference nodes reference)) found false)
+      (sym (memory_of_high nodes function operand high))
       ∙ direct)
 
   -- a free node is known, or its form is free
@@ -183,9 +191,9 @@ module _ (nodes : Nodes) (storage : Storage) (keeps : KeepTraits nodes) where
         and_from _ _ (free_stores_nothing first parts.0)
         (known_stores_nothing second (from_value _ (known_at nodes right) parts.1))
     free_form (IsCallOf given) scalar free = absurd (false≢true free)
-    free_form (IsFunction {function = Low} tree) scalar free = free_stores_nothing tree free
-    free_form (IsFunction {function = Double} tree) scalar free = free_stores_nothing tree free
-    free_form (IsFunction {function = High} tree) scalar free = high_stores_nothing tree free
+    free_form (IsFunction {function = function} {tree = inner} tree) scalar free =
+        by_byte (λ one. one ≡ true → stores_nothing inner ≡ true) (byte_taken function) _ _
+        (λ _ its. free_stores_nothing tree its) (λ high its. high_stores_nothing function high tree its) free
     free_form (IsShift {function = function} {value = value} {count = count} first second) scalar free =
         let parts : _ = and_parts (free_at nodes value) (is_some (number_at nodes count))
         (and_parts (is_of_low_byte scalar function) (is_free_with nodes value count) free).1 in

@@ -4,7 +4,7 @@ pub use Rattle.std.specs.{List.{AllByRecursion, cons_option, enumerate_from, lis
 pub use Rattle.mem80.proofs.Lists.{got_before, got_numbered}
 pub use Rattle.mem80.specs.{Memory.{byte_at}, declared.memory.TheConstants.{MEMORY_SIZE}}
 pub use Rattle.trees.proofs.Lists.{got_first}
-pub use Rattle.trees.specs.{declared.declaration.ScalarType.{ScalarType, TheVariants.{Address, Byte}}, declared.functions.UnaryFunction.TheVariants.{Double, High, Low}}
+pub use Rattle.trees.specs.{declared.declaration.ScalarType.{ScalarType, TheVariants.{Address, Byte}}, declared.functions.ByteOfValue.TheVariants.{HighByte}, declared.functions.UnaryFunction.{UnaryFunction}, internal.Functions.{byte_taken}}
 pub use Rattle.typed_trees.specs.{ExpressionTypes.{type_of}, Globals.{ListsGlobals, global_object, is_shared, shared_object}, Sizes.{size_of_object}, Storable.{HasPlace, IsStorable, LooksAtPlace, LooksBack, bytes_filled, constant_number, numbered_constant, object_in, size_of_value}, TypedTrees.{AssignmentNode, At, BasedOn, BinaryNode, CallNode, ConversionNode, Elsewhere, FunctionNode, Home as TypedHome, InConstants, InData, InFrame, InputNode, ListNode, LocationNode, NoSubscript, Nowhere, NumberNode, PartOf, Placed, ShiftNode, Subscript, TypedExpression, TypedModule, TypedObject, TypedReference, UnaryNode, ValueNode}, Weight.{constant_bytes, size_of_constant}, declared.parts.AtAddress.TheVariants.{AtNumber, AtObject}, declared.parts.ConstantItem.{ConstantItem, TheVariants.{ConstantList, ConstantObject}}, declared.parts.GlobalItem.{GlobalItem, TheVariants.{GlobalObject, GlobalProcedure}}, declared.parts.InitialValue.{InitialValue, TheVariants.{ByteValue, LocationValue, WordValue}}}
 pub use Rattle.layout.proofs.{Resolving.{further}, Segments.{constants_length, data_length, of_all}}
 pub use Rattle.layout.specs.{Segments.{Absolute, After, Location, Places, SegmentByte, SegmentStart, Target, address_of_location, constant_places, data_places, further_on, location_by_home, location_in, location_of, locations_after, places_by_home, places_in, places_of_bytes, places_of_constant, places_of_location, places_of_object, places_of_value}, StartingMemory.{values_in}, Storage.{Storage, bytes_in_constants, bytes_in_data, constants_before, data_bytes, fits_as_list, fits_as_object, is_list, is_object, slot_of_list, slot_of_object, storage_with}, declared.fault.Fault.TheVariants.{ConstantsTooLarge, DataTooLarge}, declared.slot.Segment.TheVariants.{Code, Data}, declared.slot.Slot.{Slot}, declared.slot.TheConstants.{SEGMENT_LIMIT}}

@@ -1,6 +1,7 @@
 -- Operands inside others, and parts of memory, that code finds in trees.
-use Rattle.exprgen8080.proofs.Prelude.{◌≡◌, if◌then◌else◌, Bool, Double, Expression, ExpressionForm, ExpressionNumber, High, IfSome, Low, None, Option, Reference, ScalarType, Site, Some, TreeModule, expression, false, form_in_memory, high_byte_in_memory, high_in_memory, high_of, inside, keeps_of_address, memory, operand_in_memory, option_and_then, option_map, plain_in_memory, reference_after, refl, same_low_byte, true, word_in_memory, word_of, ℕ}
+use Rattle.exprgen8080.proofs.Prelude.{◌≡◌, if◌then◌else◌, Bool, Expression, ExpressionForm, ExpressionNumber, IfSome, None, Option, Reference, ScalarType, Site, Some, TreeModule, byte_taken, expression, false, form_in_memory, high_byte_in_memory, high_in_memory, high_of, inside, keeps_of_address, memory, operand_in_memory, option_and_then, option_map, plain_in_memory, reference_after, refl, same_low_byte, true, word_in_memory, word_of, ℕ}
 use Rattle.trees.specs.declared.declaration.ScalarType.TheVariants as scalars
+use Rattle.trees.proofs.TakenBytes.{by_byte}
 use Rattle.treecode.specs.declared.expression.ExpressionForm.TheVariants as forms
 use Rattle.exprgen8080.proofs.Ranks.{Joining.{HasLowParts, IsPlaced, IsUnder, weak}, Trees.{HasParts, has_parts}}
 
@@ -9,9 +10,9 @@ inside_form :
     → HasLowParts site.tree.now limit number → HasParts site.tree.now limit form
     → HasLowParts site.tree.now limit (inside number form)
 inside_form site limit number (forms.Conversion inner) is has = weak has
-inside_form site limit number (forms.Function Low operand) is has = weak has
-inside_form site limit number (forms.Function Double operand) is has = weak has
-inside_form site limit number (forms.Function High operand) is has = is
+inside_form site limit number (forms.Function function operand) is has =
+    by_byte (λ one. HasLowParts site.tree.now limit one) (byte_taken function) operand number (λ _. weak has)
+    (λ _. is)
 inside_form site limit number form is has = is
 
 same_low :
@@ -95,9 +96,9 @@ plain_form :
     → HasParts site.tree.now limit form
     → IfSome (form_in_memory site form) (IsPlaced site.tree.now limit)
 plain_form site limit (forms.Value reference) has = has
-plain_form site limit (forms.Function High operand) has = high_of_operand site limit operand (weak has)
-plain_form site limit (forms.Function Low operand) has = tt
-plain_form site limit (forms.Function Double operand) has = tt
+plain_form site limit (forms.Function function operand) has =
+    by_byte (λ found. IfSome found (IsPlaced site.tree.now limit)) (byte_taken function) None
+    (high_in_memory site operand) (λ _. tt) (λ _. high_of_operand site limit operand (weak has))
 plain_form site limit form has = tt
 
 plain_is_in_memory :

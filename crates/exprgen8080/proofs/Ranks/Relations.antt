@@ -1,7 +1,8 @@
 -- Relations as values and as jumps, and jumps on conditions.
-use Rattle.exprgen8080.proofs.Prelude.{◌≡◌, ◌<◌, ◌&&◌, ◌∷◌, ◌++◌, if◌then◌else◌, Apart, operand_apart, Between, BinaryOperator, Bool, Comparison, Condition, DeAndHl, Double, Equal, Expression, ExpressionForm, ExpressionNumber, IfSome, Inquiry, Joined, Junction, Known, LabelNumber, LeftBelow, Low, Negate, None, Not, Opposite, Option, Other, Outcome, PlaceAndHl, Question, Relation, RightBelow, SameAs, ScalarType, Setting, Shape, Site, Some, Step, List, [], TreeModule, Whatever, WithNumber, Words, agree, branch_labels, branch_part, branch_setting, branch_steps, byte_relation_steps, carry_steps, equality_labels, equality_of_words, equality_steps, expression, false, fits_byte, high_difference_steps, inquiry_steps, is_odd, is_quiet, joined_labels, joined_steps, known_branch_steps, label_of, low_difference_steps, mirrored, option_and_then, option_map, other_labels, other_steps, outcome_branch_steps, outcome_value_steps, question_of, rank, refl, relation_between, relation_branch_labels, relation_branch_steps, relation_by, relation_of, relation_of_form, relation_outcome, relation_steps, relation_value_steps, relation_with_number, scalar, shape_of, shape_of_binary, shape_of_form, shape_labels, shape_of_junction, shape_steps, shape_with_number, true, value_setting, word_relation_steps, words_asked, words_compared, words_of, ℕ}
+use Rattle.exprgen8080.proofs.Prelude.{◌≡◌, ◌<◌, ◌&&◌, ◌∷◌, ◌++◌, if◌then◌else◌, Apart, operand_apart, Between, BinaryOperator, Bool, Comparison, Condition, DeAndHl, Equal, Expression, ExpressionForm, ExpressionNumber, IfSome, Inquiry, Joined, Junction, Known, LabelNumber, LeftBelow, Negate, None, Not, Opposite, Option, Other, Outcome, PlaceAndHl, Question, Relation, RightBelow, SameAs, ScalarType, Setting, Shape, Site, Some, Step, List, [], TreeModule, Whatever, WithNumber, Words, agree, branch_labels, branch_part, branch_setting, branch_steps, byte_taken, byte_relation_steps, carry_steps, equality_labels, equality_of_words, equality_steps, expression, false, fits_byte, high_difference_steps, inquiry_steps, is_odd, is_quiet, joined_labels, joined_steps, known_branch_steps, label_of, low_difference_steps, mirrored, option_and_then, option_map, other_labels, other_steps, outcome_branch_steps, outcome_value_steps, question_of, rank, refl, relation_between, relation_branch_labels, relation_branch_steps, relation_by, relation_of, relation_of_form, relation_outcome, relation_steps, relation_value_steps, relation_with_number, scalar, shape_of, shape_of_binary, shape_of_form, shape_labels, shape_of_junction, shape_steps, shape_with_number, true, value_setting, word_relation_steps, words_asked, words_compared, words_of, ℕ}
 use Rattle.trees.specs.declared.declaration.ScalarType.TheVariants as scalars
 use Rattle.trees.specs.declared.expression.BinaryOperator.TheVariants as operators
+use Rattle.trees.proofs.TakenBytes.{by_byte}
 use Rattle.treecode.specs.declared.expression.ExpressionForm.TheVariants as forms
 use Rattle.asm8080.specs.declared.item.WordForm.TheVariants as word_forms
 use Rattle.isa8080.specs.declared.instr.Condition.TheVariants as conditions
@@ -208,8 +209,9 @@ shape_form_is :
     → HasParts site.tree.now limit form
     → IsShape site.tree.now limit (shape_of_form site form)
 shape_form_is site limit (forms.Conversion inner) has = has
-shape_form_is site limit (forms.Function Low operand) has = has
-shape_form_is site limit (forms.Function Double operand) has = has
+shape_form_is site limit (forms.Function function operand) has =
+    by_byte (λ shape. IsShape site.tree.now limit shape) (byte_taken function) (SameAs operand) Other
+    (λ _. has) (λ _. tt)
 shape_form_is site limit (forms.Unary Not operand) has = has
 shape_form_is site limit (forms.Unary Negate operand) has = has
 shape_form_is site limit (forms.Binary operands operator left right) has =

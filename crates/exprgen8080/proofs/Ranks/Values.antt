@@ -1,5 +1,6 @@
 -- Values of expressions in A and in HL.
-use Rattle.exprgen8080.proofs.Prelude.{◌≡◌, ◌<◌, ◌∙◌, Double, Expression, ExpressionForm, ExpressionNumber, High, Low, Negate, None, Not, Option, Place, Range, Reference, ScalarType, Site, Some, Static, ap, byte_form_steps, byte_function_steps, byte_in_memory_steps, byte_of_two_steps, byte_steps, byte_unary_steps, called_byte_steps, computed_word_steps, expression, extended_byte_in_memory_steps, extended_byte_steps, known, known_byte_steps, low, low_of_value_steps, memory, place_number, rank, refl, scalar, source, true, word_form_steps, word_function_steps, word_of_two_steps, word_steps, ℕ}
+use Rattle.exprgen8080.proofs.Prelude.{◌≡◌, ◌<◌, ◌∙◌, Expression, ExpressionForm, ExpressionNumber, Negate, None, Not, Option, Place, Range, Reference, ScalarType, Site, Some, Static, ap, byte_form_steps, byte_function_steps, byte_in_memory_steps, byte_of_two_steps, byte_steps, byte_taken, byte_unary_steps, called_byte_steps, computed_word_steps, expression, extended_byte_in_memory_steps, extended_byte_steps, known, known_byte_steps, low, low_of_value_steps, memory, place_number, rank, refl, scalar, source, true, word_form_steps, word_of_two_steps, word_steps, ℕ}
+use Rattle.trees.proofs.TakenBytes.{by_byte}
 use Rattle.trees.specs.declared.declaration.ScalarType.TheVariants as scalars
 use Rattle.treecode.specs.declared.expression.ExpressionForm.TheVariants as forms
 use Rattle.steps8080.specs.declared.step.Task.TheVariants as tasks
@@ -41,10 +42,9 @@ byte_form_fall :
     → Falls site limit (byte_form_steps site number form pushed)
 unfolding byte_form_steps byte_function_steps byte_unary_steps byte_of_two_steps
 byte_form_fall number (forms.Conversion inner) pushed is own has = falls (has, tt)
-byte_form_fall number (forms.Function Low operand) pushed is own has = falls (has, tt)
-byte_form_fall {site = site} number (forms.Function High operand) pushed is own has =
-    high_byte_fall operand pushed has
-byte_form_fall number (forms.Function Double operand) pushed is own has = falls (has, tt)
+byte_form_fall {site = site} {limit = limit} number (forms.Function function operand) pushed is own has =
+    by_byte (λ steps. Falls site limit steps) (byte_taken function) _ _ (λ _. falls (has, tt))
+    (λ _. high_byte_fall operand pushed has)
 byte_form_fall number (forms.Unary Not operand) pushed is own has = falls (has, tt)
 byte_form_fall number (forms.Unary Negate operand) pushed is own has = falls (has, tt)
 byte_form_fall {site = site} number (forms.Binary operands operator left right) pushed is own has =
@@ -106,14 +106,12 @@ word_form_fall :
     (form : ExpressionForm) (pushed : ℕ)
     → HasParts site.tree.now limit form
     → Falls site limit (word_form_steps site form pushed)
-unfolding word_form_steps word_function_steps word_of_two_steps
+unfolding word_form_steps word_of_two_steps
 word_form_fall {site = site} number (forms.Value reference) pushed has =
     word_in_memory_fall reference pushed has
 word_form_fall number (forms.Location reference) pushed has = falls (has, tt)
 word_form_fall number (forms.Conversion inner) pushed has = falls (has, tt)
-word_form_fall number (forms.Function Double operand) pushed has = falls (has, tt)
-word_form_fall number (forms.Function Low operand) pushed has = falls tt
-word_form_fall number (forms.Function High operand) pushed has = falls tt
+word_form_fall number (forms.Function function operand) pushed has = falls (has, tt)
 word_form_fall number (forms.Unary operator operand) pushed has =
     after_part has (word_unary_fall operator)
 word_form_fall {site = site} number (forms.Binary operands operator left right) pushed has =

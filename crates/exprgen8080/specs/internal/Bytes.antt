@@ -10,7 +10,7 @@ use Rattle.trees.specs.declared.declaration.ScalarType.TheVariants as scalars
 use Rattle.trees.specs.declared.expression.UnaryOperator.{UnaryOperator}
 use Rattle.trees.specs.declared.expression.UnaryOperator.TheVariants.{Not, Negate}
 use Rattle.trees.specs.declared.functions.UnaryFunction.{UnaryFunction}
-use Rattle.trees.specs.declared.functions.UnaryFunction.TheVariants.{Low, High, Double}
+use Rattle.trees.specs.internal.Functions.{byte_taken, for_byte}
 use Rattle.treecode.specs.declared.expression.ExpressionForm.{ExpressionForm}
 use Rattle.treecode.specs.declared.expression.ExpressionForm.TheVariants as forms
 use Rattle.treecode.specs.declared.expression.ExpressionNumber.{ExpressionNumber}
@@ -61,11 +61,11 @@ unfoldable pub called_byte_steps :
 called_byte_steps site number procedure arguments pushed =
     call_steps site procedure arguments pushed ++ low_of_value_steps (scalar site number)
 
--- puts the low byte of LOW, HIGH or DOUBLE of a value into A
+-- puts the low byte of a function of one value into A
 unfoldable pub byte_function_steps : Site → UnaryFunction → ExpressionNumber → (pushed : ℕ) → List Step
-byte_function_steps site Low operand pushed = part (tasks.Byte operand) pushed ∷ []
-byte_function_steps site High operand pushed = high_byte_steps site operand pushed
-byte_function_steps site Double operand pushed = part (tasks.Byte operand) pushed ∷ []
+byte_function_steps site function operand pushed =
+    for_byte (byte_taken function) (part (tasks.Byte operand) pushed ∷ [])
+    (high_byte_steps site operand pushed)
 
 -- puts the low byte of the result of an operator with two operands, a shift or a rotation into A
 unfoldable pub byte_of_two_steps :

@@ -6,8 +6,6 @@ use Rattle.isa8080.specs.declared.instr.Register.TheVariants.{A, H, L}
 use Rattle.trees.specs.declared.declaration.ScalarType.TheVariants as scalars
 use Rattle.trees.specs.declared.expression.UnaryOperator.{UnaryOperator}
 use Rattle.trees.specs.declared.expression.UnaryOperator.TheVariants.{Not, Negate}
-use Rattle.trees.specs.declared.functions.UnaryFunction.{UnaryFunction}
-use Rattle.trees.specs.declared.functions.UnaryFunction.TheVariants.{Double}
 use Rattle.treecode.specs.declared.expression.Expression.{Expression}
 use Rattle.treecode.specs.declared.expression.ExpressionForm.{ExpressionForm}
 use Rattle.treecode.specs.declared.expression.ExpressionForm.TheVariants as forms
@@ -41,11 +39,6 @@ extended_byte_steps site number pushed = elim (memory site number) [
   | None ↦ part (tasks.Byte number) pushed ∷ extension_steps
 ]
 
--- puts LOW, HIGH or DOUBLE of a value, as an ADDRESS, into HL; the first two give a BYTE
-unfoldable pub word_function_steps : UnaryFunction → ExpressionNumber → (pushed : ℕ) → List Step
-word_function_steps Double operand pushed = part (tasks.Word operand) pushed ∷ []
-word_function_steps function operand pushed = []
-
 -- puts the result of an operator with two ADDRESS operands, or of a shift of an ADDRESS, into HL
 unfoldable pub word_of_two_steps : Site → ExpressionForm → (pushed : ℕ) → List Step
 word_of_two_steps site (forms.Binary operands operator left right) pushed =
@@ -54,12 +47,12 @@ word_of_two_steps site (forms.Shift function value count) pushed =
     word_shift_steps site (record { function = function; value = value; count = count }) pushed
 word_of_two_steps site form pushed = []
 
--- puts the value of an ADDRESS expression that is not known into HL
+-- puts the value of an ADDRESS expression that is not known into HL; a function that gives an ADDRESS gives its operand
 unfoldable pub word_form_steps : Site → ExpressionForm → (pushed : ℕ) → List Step
 word_form_steps site (forms.Value reference) pushed = word_in_memory_steps site reference pushed
 word_form_steps site (forms.Location reference) pushed = part (tasks.Address reference) pushed ∷ []
 word_form_steps site (forms.Conversion inner) pushed = part (tasks.Word inner) pushed ∷ []
-word_form_steps site (forms.Function function operand) pushed = word_function_steps function operand pushed
+word_form_steps site (forms.Function function operand) pushed = part (tasks.Word operand) pushed ∷ []
 word_form_steps site (forms.Unary operator operand) pushed =
     part (tasks.Word operand) pushed ∷ word_unary_steps operator
 word_form_steps site (forms.Binary operands operator left right) pushed =

@@ -1,5 +1,6 @@
 -- Operands inside others, parts of memory, and split addresses, that code finds in trees.
-use Rattle.measure_laws.proofs.Prelude.{Source, TreeModule, Bool, IfSome, None, Option, Some, arith, false, if◌then◌else◌, option_and_then, option_map, refl, subst, true, ℕ, ◌%◌, ◌*◌, ◌+◌, ◌≡◌, ◌≤◌, ScalarType, height_of_reference, PartOf, TypedReference, TypesHoldInReference, Double, High, Low, IsPart, IsReference, nodes_of, inside, Expression, ExpressionForm, ExpressionNumber, Reference, form_in_memory, high_of, reference_after, word_of, high_in_memory, keeps_of_address, memory, plain_in_memory, same_low_byte, expression, high_byte_in_memory, operand_in_memory, word_in_memory, beside, indices}
+use Rattle.measure_laws.proofs.Prelude.{Source, TreeModule, Bool, IfSome, None, Option, Some, arith, false, if◌then◌else◌, option_and_then, option_map, refl, subst, true, ℕ, ◌%◌, ◌*◌, ◌+◌, ◌≡◌, ◌≤◌, ScalarType, height_of_reference, PartOf, TypedReference, TypesHoldInReference, IsPart, IsReference, nodes_of, inside, Expression, ExpressionForm, ExpressionNumber, Reference, form_in_memory, high_of, reference_after, word_of, high_in_memory, keeps_of_address, memory, plain_in_memory, same_low_byte, expression, high_byte_in_memory, operand_in_memory, word_in_memory, beside, indices, byte_taken}
+use Rattle.trees.proofs.TakenBytes.{by_byte}
 use Rattle.trees.specs.declared.declaration.ScalarType.TheVariants as scalars
 use Rattle.treecode.specs.declared.expression.ExpressionForm.TheVariants as forms
 use Rattle.measure_laws.specs.internal.Footprints.{Ground, HasParts, IsOperand, IsPlaced, Places}
@@ -27,11 +28,10 @@ inside_form :
     → IsInside at free number (inside number form)
 inside_form at free number (forms.Conversion inner) is has =
     record { one = has.one; small = omega (arith, has.same) }
-inside_form at free number (forms.Function Low operand) is has =
-    record { one = operand_from_below has.one; small = omega (arith, has.same) }
-inside_form at free number (forms.Function Double operand) is has =
-    record { one = operand_from_below has.one; small = omega (arith, has.same) }
-inside_form at free number (forms.Function High operand) is has = record { one = is; small = omega arith }
+inside_form at free number (forms.Function function operand) is has =
+    by_byte (λ one. IsInside at free number one) (byte_taken function) operand number
+    (λ _. record { one = operand_from_below has.one; small = omega (arith, has.same) })
+    (λ _. record { one = is; small = omega arith })
 inside_form at free number form is has = record { one = is; small = omega arith }
 
 pub same_low :
@@ -139,11 +139,11 @@ plain_form : (at : Ground) (free : ℕ) (number : ExpressionNumber) (form : Expr
     → IfSome (form_in_memory at.site form) (IsInMemory at free number)
 plain_form at free number (forms.Value reference) has =
     record { place = has.place; small = omega (arith, has.same) }
-plain_form at free number (forms.Function High operand) has =
-    memory_inside at free number operand (high_in_memory at.site operand) (omega (arith, has.same))
-    (high_of_operand at free operand (operand_from_below has.one))
-plain_form at free number (forms.Function Low operand) has = tt
-plain_form at free number (forms.Function Double operand) has = tt
+plain_form at free number (forms.Function function operand) has =
+    by_byte (λ found. IfSome found (IsInMemory at free number)) (byte_taken function) None
+    (high_in_memory at.site operand) (λ _. tt)
+    (λ _. memory_inside at free number operand (high_in_memory at.site operand) (omega (arith, has.same))
+    (high_of_operand at free operand (operand_from_below has.one)))
 plain_form at free number form has = tt
 
 plain_is_in_memory :

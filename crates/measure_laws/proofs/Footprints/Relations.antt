@@ -1,5 +1,6 @@
 -- Relations as values and as jumps, and jumps on conditions.
-use Rattle.measure_laws.proofs.Prelude.{Bool, IfSome, List, None, Option, Some, [], arith, false, if◌then◌else◌, inl, inr, option_and_then, option_map, refl, true, ℕ, ◌&&◌, ◌*◌, ◌++◌, ◌+◌, ◌∷◌, ◌≡◌, ◌≤◌, ScalarType, BinaryOperator, Negate, Not, Double, Low, Condition, Expression, ExpressionForm, ExpressionNumber, agree, mirrored, question_of, relation_by, relation_of_form, relation_with_number, label_of, Comparison, Inquiry, Between, WithNumber, Question, Equal, LeftBelow, RightBelow, Relation, LabelNumber, Step, is_quiet, relation_between, relation_of, expression, fits_byte, branch_part, branch_setting, branch_steps, by_bit_steps, equality_steps, is_odd, known_branch_steps, outcome_branch_steps, relation_branch_steps, shape_of_binary, shape_of_form, shape_of_junction, shape_steps, shape_with_number, byte_relation_steps, carry_steps, inquiry_steps, outcome_value_steps, relation_outcome, relation_steps, relation_value_steps, value_setting, high_difference_steps, low_difference_steps, word_relation_steps, words_asked, words_compared, words_of, words_steps, Setting, Junction, Shape, Joined, Known, Opposite, Other, SameAs, Whatever, Outcome, Words, DeAndHl, PlaceAndHl, shape_of, equality_of_words, beside, StepsBind}
+use Rattle.measure_laws.proofs.Prelude.{Bool, IfSome, List, None, Option, Some, [], arith, false, if◌then◌else◌, inl, inr, option_and_then, option_map, refl, true, ℕ, ◌&&◌, ◌*◌, ◌++◌, ◌+◌, ◌∷◌, ◌≡◌, ◌≤◌, ScalarType, BinaryOperator, Negate, Not, Condition, Expression, ExpressionForm, ExpressionNumber, agree, mirrored, question_of, relation_by, relation_of_form, relation_with_number, label_of, Comparison, Inquiry, Between, WithNumber, Question, Equal, LeftBelow, RightBelow, Relation, LabelNumber, Step, is_quiet, relation_between, relation_of, expression, fits_byte, branch_part, branch_setting, branch_steps, by_bit_steps, equality_steps, is_odd, known_branch_steps, outcome_branch_steps, relation_branch_steps, shape_of_binary, shape_of_form, shape_of_junction, shape_steps, shape_with_number, byte_relation_steps, carry_steps, inquiry_steps, outcome_value_steps, relation_outcome, relation_steps, relation_value_steps, value_setting, high_difference_steps, low_difference_steps, word_relation_steps, words_asked, words_compared, words_of, words_steps, Setting, Junction, Shape, Joined, Known, Opposite, Other, SameAs, Whatever, Outcome, Words, DeAndHl, PlaceAndHl, shape_of, equality_of_words, beside, StepsBind, byte_taken}
+use Rattle.trees.proofs.TakenBytes.{by_byte}
 use Rattle.trees.specs.declared.declaration.ScalarType.TheVariants as scalars
 use Rattle.trees.specs.declared.expression.BinaryOperator.TheVariants as operators
 use Rattle.treecode.specs.declared.expression.ExpressionForm.TheVariants as forms
@@ -260,10 +261,9 @@ shape_form_is :
     → IsShape at free number (shape_of_form at.site form)
 shape_form_is at free number (forms.Conversion inner) has =
     record { one = has.one; small = omega (arith, has.same) }
-shape_form_is at free number (forms.Function Low operand) has =
-    record { one = operand_from_below has.one; small = omega (arith, has.same) }
-shape_form_is at free number (forms.Function Double operand) has =
-    record { one = operand_from_below has.one; small = omega (arith, has.same) }
+shape_form_is at free number (forms.Function function operand) has =
+    by_byte (λ shape. IsShape at free number shape) (byte_taken function) (SameAs operand) Other
+    (λ _. record { one = operand_from_below has.one; small = omega (arith, has.same) }) (λ _. tt)
 shape_form_is at free number (forms.Unary Not operand) has =
     record { one = operand_from_below has.one; small = omega (arith, has.same) }
 shape_form_is at free number (forms.Unary Negate operand) has =

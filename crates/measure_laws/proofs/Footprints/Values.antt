@@ -1,5 +1,6 @@
 -- Values of expressions in A and in HL.
-use Rattle.measure_laws.proofs.Prelude.{ap, arith, refl, true, ℕ, ◌*◌, ◌+◌, ◌≡◌, ScalarType, Negate, Not, Double, High, Low, nodes_of, place_number, source_of, Expression, ExpressionForm, ExpressionNumber, Range, Static, Place, Reference, low, known, memory, expression, scalar, byte_in_memory_steps, extended_byte_in_memory_steps, byte_form_steps, byte_function_steps, byte_of_two_steps, byte_steps, byte_unary_steps, called_byte_steps, known_byte_steps, low_of_value_steps, computed_word_steps, extended_byte_steps, word_form_steps, word_function_steps, word_of_two_steps, word_steps, weight_in_target, beside_at, beside, given, indices, more_for_byte, more_for_word, type_at}
+use Rattle.measure_laws.proofs.Prelude.{ap, arith, refl, true, ℕ, ◌*◌, ◌+◌, ◌≡◌, ScalarType, Negate, Not, nodes_of, place_number, source_of, Expression, ExpressionForm, ExpressionNumber, Range, Static, Place, Reference, low, known, memory, expression, scalar, byte_in_memory_steps, extended_byte_in_memory_steps, byte_form_steps, byte_function_steps, byte_of_two_steps, byte_steps, byte_unary_steps, called_byte_steps, known_byte_steps, low_of_value_steps, computed_word_steps, extended_byte_steps, word_form_steps, word_of_two_steps, word_steps, weight_in_target, beside_at, beside, given, indices, more_for_byte, more_for_word, type_at, byte_taken}
+use Rattle.trees.proofs.TakenBytes.{by_byte}
 use Rattle.trees.specs.declared.declaration.ScalarType.TheVariants as scalars
 use Rattle.treecode.specs.declared.expression.ExpressionForm.TheVariants as forms
 use Rattle.measure_laws.specs.internal.Footprints.{AreGiven, Footprint, Ground, HasParts, IsOperand}
@@ -39,13 +40,14 @@ byte_form_footprint :
 unfolding byte_form_steps byte_function_steps byte_unary_steps byte_of_two_steps
 byte_form_footprint number (forms.Conversion inner) pushed is has =
     counted (has.one, refl) (omega (arith, has.same))
-byte_form_footprint number (forms.Function Low operand) pushed is has =
-    counted (operand_from_below has.one, refl) (omega (arith, has.same))
-byte_form_footprint {at = at} number (forms.Function High operand) pushed is has =
-    within (77 + 128 * beside at.site operand) (high_byte_footprint operand pushed has.one)
-    (omega (arith, has.same))
-byte_form_footprint number (forms.Function Double operand) pushed is has =
-    counted (operand_from_below has.one, refl) (omega (arith, has.same))
+byte_form_footprint {at = at} {free = free} number (forms.Function function operand) pushed is has =
+    by_byte
+    (λ steps. Footprint at free steps free
+    (72 + more_for_byte (type_at at.site number) + 128 * beside at.site number))
+    (byte_taken function) _ _
+    (λ _. counted (operand_from_below has.one, refl) (omega (arith, has.same)))
+    (λ _. within (77 + 128 * beside at.site operand) (high_byte_footprint operand pushed has.one)
+    (omega (arith, has.same)))
 byte_form_footprint number (forms.Unary Not operand) pushed is has =
     counted (operand_from_below has.one, refl) (omega (arith, has.same))
 byte_form_footprint number (forms.Unary Negate operand) pushed is has =
@@ -116,7 +118,7 @@ word_form_footprint :
     {at : Ground} {free : ℕ} (number : ExpressionNumber) (form : ExpressionForm) (pushed : ℕ)
     → HasParts at free number form
     → Footprint at free (word_form_steps at.site form pushed) free (72 + 128 * beside at.site number)
-unfolding word_form_steps word_function_steps word_of_two_steps
+unfolding word_form_steps word_of_two_steps
 word_form_footprint {at = at} number (forms.Value reference) pushed has =
     within (36 + 128 * indices at.site reference) (word_in_memory_footprint reference pushed has.place)
     (omega (arith, has.same))
@@ -124,10 +126,8 @@ word_form_footprint number (forms.Location reference) pushed has =
     counted (has.place, refl) (omega (arith, has.same))
 word_form_footprint number (forms.Conversion inner) pushed has =
     counted (has.one, refl) (omega (arith, has.same))
-word_form_footprint number (forms.Function Double operand) pushed has =
+word_form_footprint number (forms.Function function operand) pushed has =
     counted (operand_from_below has.one, refl) (omega (arith, has.same))
-word_form_footprint number (forms.Function Low operand) pushed has = counted refl (omega arith)
-word_form_footprint number (forms.Function High operand) pushed has = counted refl (omega arith)
 word_form_footprint number (forms.Unary operator operand) pushed has =
     after_part 7 (operand_from_below has.one) (word_unary_footprint operator) (omega (arith, has.same))
 word_form_footprint {at = at} number (forms.Binary operands operator left right) pushed has =

@@ -7,7 +7,7 @@ use Rattle.asm8080.specs.declared.item.WordForm.TheVariants as forms
 use Rattle.trees.specs.declared.expression.BinaryOperator.{BinaryOperator}
 use Rattle.trees.specs.declared.expression.BinaryOperator.TheVariants as operators
 use Rattle.trees.specs.declared.expression.UnaryOperator.TheVariants.{Not, Negate}
-use Rattle.trees.specs.declared.functions.UnaryFunction.TheVariants.{Low, Double}
+use Rattle.trees.specs.internal.Functions.{byte_taken, for_byte}
 use Rattle.treecode.specs.declared.expression.ExpressionForm.{ExpressionForm}
 use Rattle.treecode.specs.declared.expression.ExpressionForm.TheVariants.{Conversion, Function, Unary, Binary}
 use Rattle.treecode.specs.declared.expression.ExpressionNumber.{ExpressionNumber}
@@ -94,8 +94,7 @@ shape_of_binary site operator left right = Other
 -- the lowest bit of an expression of this form
 abbrev pub shape_of_form : Site → ExpressionForm → Shape
 shape_of_form site (Conversion inner) = SameAs inner
-shape_of_form site (Function Low operand) = SameAs operand
-shape_of_form site (Function Double operand) = SameAs operand
+shape_of_form site (Function function operand) = for_byte (byte_taken function) (SameAs operand) Other
 shape_of_form site (Unary Not operand) = Opposite operand
 shape_of_form site (Unary Negate operand) = SameAs operand
 shape_of_form site (Binary operands operator left right) = shape_of_binary site operator left right

@@ -4,7 +4,7 @@ use Rattle.trees.specs.declared.declaration.ScalarType.{ScalarType}
 use Rattle.trees.specs.declared.declaration.ScalarType.TheVariants as scalars
 use Rattle.trees.specs.declared.expression.BinaryOperator.{BinaryOperator}
 use Rattle.trees.specs.declared.expression.BinaryOperator.TheVariants.{Add, Subtract}
-use Rattle.trees.specs.declared.functions.UnaryFunction.TheVariants.{High}
+use Rattle.trees.specs.internal.Functions.{byte_taken, for_byte}
 use Rattle.treecode.specs.declared.expression.Expression.{Expression}
 use Rattle.treecode.specs.declared.expression.ExpressionForm.{ExpressionForm}
 use Rattle.treecode.specs.declared.expression.ExpressionForm.TheVariants.{Binary, Function, Value}
@@ -190,30 +190,33 @@ abbrev pub high_of : ExpressionForm → ScalarType → Option Reference
 high_of (Value reference) scalars.Address = Some (reference_after reference 1)
 high_of form scalar = None
 
--- the part of memory that holds HIGH of an expression, if any
+-- the part of memory that holds the high byte of an expression, if any
 unfoldable pub high_in_memory : Site → ExpressionNumber → Option Reference
 high_in_memory site operand =
     option_and_then (λ (found : Expression). high_of found.form found.traits.scalar) (expression site operand)
 
 abbrev pub form_in_memory : Site → ExpressionForm → Option Reference
 form_in_memory site (Value reference) = Some reference
-form_in_memory site (Function High operand) = high_in_memory site operand
+form_in_memory site (Function function operand) =
+    for_byte (byte_taken function) None (high_in_memory site operand)
 form_in_memory site form = None
 
--- the part of memory that holds the low byte of an expression that is not LOW, DOUBLE or a conversion, if any
+-- the part of memory that holds the low byte of an expression that is no conversion, and no function that takes the low
+-- byte, if any
 unfoldable pub plain_in_memory : Site → ExpressionNumber → Option Reference
 plain_in_memory site number =
     option_and_then (λ (found : Expression). form_in_memory site found.form) (expression site number)
 
--- the expression inside LOW, DOUBLE or a conversion, which has the same low byte; else the expression itself
+-- the operand of a conversion, or of a function that takes its low byte, which has the same low byte; else the
+-- expression itself
 unfoldable pub same_low_byte : Site → ExpressionNumber → ExpressionNumber
 same_low_byte site number = elim (expression site number) [
   | Some found ↦ inside number found.form
   | None ↦ number
 ]
 
--- the part of memory that holds the low byte of an expression, if the expression is a reference, or LOW,
--- HIGH, DOUBLE or a conversion of one
+-- the part of memory that holds the low byte of an expression, if the expression is a reference, or a conversion or a
+-- function of one
 unfoldable pub memory : Site → ExpressionNumber → Option Reference
 memory site number = plain_in_memory site (same_low_byte site (same_low_byte site number))
 

@@ -6,7 +6,6 @@ use Rattle.trees.specs.declared.expression.BinaryOperator.{BinaryOperator}
 use Rattle.trees.specs.declared.expression.BinaryOperator.TheVariants.{And, Modulo}
 use Rattle.typed_trees.specs.declared.parts.ShiftFunction.{ShiftFunction}
 use Rattle.typed_trees.specs.declared.parts.ShiftFunction.TheVariants.{ShiftRight}
-use Rattle.trees.specs.declared.functions.UnaryFunction.TheVariants.{Double}
 use Rattle.treecode.specs.declared.expression.Expression.{Expression}
 use Rattle.treecode.specs.declared.expression.ExpressionForm.{ExpressionForm}
 use Rattle.treecode.specs.declared.expression.ExpressionForm.TheVariants.{Binary, Conversion, Function, Shift, Value}
@@ -58,7 +57,7 @@ is_byte scalars.Address = false
 -- whether its form shows that an ADDRESS expression has a value below 256
 unfoldable pub form_fits_byte : Site → ExpressionForm → Bool
 form_fits_byte site (Conversion inner) = is_byte (scalar site inner)
-form_fits_byte site (Function Double inner) = is_byte (scalar site inner)
+form_fits_byte site (Function function operand) = is_byte (scalar site operand)
 form_fits_byte site (Binary operands operator left right) = result_fits_byte site operator left right
 form_fits_byte site (Shift function value count) = shift_fits_byte site function count
 form_fits_byte site form = false

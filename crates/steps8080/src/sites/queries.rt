@@ -8,7 +8,7 @@ use treecode::{
     Expression, ExpressionForm, ExpressionNumber, Home, Keeps, Location, Place, Reference,
     Subscript, keeps_of_address,
 };
-use trees::{BinaryOperator, ScalarType, UnaryFunction};
+use trees::{BinaryOperator, ByteOfValue, ScalarType};
 
 /// The base from which the address of an object or a part of it counts.
 #[derive(Clone, Copy)]
@@ -283,7 +283,7 @@ impl<'a> Site<'a> {
         }
     }
 
-    // The part of memory that holds HIGH of an expression, if any.
+    // The part of memory that holds the high byte of an expression, if any.
     #[tactic(auto, unfolding(crate::specs::internal::Queries::high_in_memory))]
     fn high_in_memory(&self, operand: ExpressionNumber) -> Option<Reference>
         ensures { result ≡ high_in_memory self.now operand }
@@ -301,7 +301,8 @@ impl<'a> Site<'a> {
         }
     }
 
-    // The part of memory that holds the low byte of an expression that is not LOW, DOUBLE or a conversion, if any.
+    // The part of memory that holds the low byte of an expression that is no conversion, and no function that takes the
+    // low byte, if any.
     #[tactic(auto, unfolding(crate::specs::internal::Queries::plain_in_memory))]
     fn plain_in_memory(&self, number: ExpressionNumber) -> Option<Reference>
         ensures { result ≡ plain_in_memory self.now number }
@@ -309,17 +310,18 @@ impl<'a> Site<'a> {
         match self.expression(number) {
             Some(expression) => match expression.form {
                 ExpressionForm::Value(reference) => Some(reference),
-                ExpressionForm::Function {
-                    function: UnaryFunction::High,
-                    operand,
-                } => self.high_in_memory(operand),
+                ExpressionForm::Function { function, operand } => match function.byte_taken() {
+                    ByteOfValue::LowByte => None,
+                    ByteOfValue::HighByte => self.high_in_memory(operand),
+                },
                 _ => None,
             },
             None => None,
         }
     }
 
-    /// The expression inside LOW, DOUBLE or a conversion, which has the same low byte; else the expression itself.
+    /// The operand of a conversion, or of a function that takes its low byte, which has the same low byte; else the
+    /// expression itself.
     #[tactic(auto, using(crate::proofs::Kept::same_low_byte_is_kept))]
     pub fn same_low_byte(&self, number: ExpressionNumber) -> ExpressionNumber
         ensures { result ≡ same_low_byte self.now number }
@@ -327,8 +329,8 @@ impl<'a> Site<'a> {
         self.tree.same_low_byte(number)
     }
 
-    /// The part of memory that holds the low byte of an expression, if the expression is a reference, or LOW, HIGH,
-    /// DOUBLE or a conversion of one.
+    /// The part of memory that holds the low byte of an expression, if the expression is a reference, or a conversion or
+    /// a function of one.
     #[tactic(auto, unfolding(crate::specs::internal::Queries::memory))]
     pub fn memory(&self, number: ExpressionNumber) -> Option<Reference>
         ensures { result ≡ memory self.now number }

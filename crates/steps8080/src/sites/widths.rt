@@ -7,7 +7,7 @@ use crate::sites::queries::reference_after;
 use crate::sites::site::Site;
 use crate::{Facts, before, is_at, low};
 use treecode::{Expression, ExpressionForm, ExpressionNumber, Location, Place, Reference};
-use trees::{BinaryOperator, ScalarType, UnaryFunction};
+use trees::{BinaryOperator, ScalarType};
 use typed_trees::ShiftFunction;
 
 /// The exponent of a power of 2, if the number is one.
@@ -73,7 +73,7 @@ impl<'a> Site<'a> {
         match form {
             ExpressionForm::Conversion(inner)
             | ExpressionForm::Function {
-                function: UnaryFunction::Double,
+                function: _,
                 operand: inner,
             } => matches!(self.scalar(*inner), ScalarType::Byte),
             ExpressionForm::Binary {

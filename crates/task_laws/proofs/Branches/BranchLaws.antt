@@ -1,5 +1,8 @@
 -- The code of jumps on a condition does what the condition means.
-use Rattle.task_laws.proofs.Prelude.{◌≡◌, ℕ, zero, suc, ◌+◌, ◌-◌, ◌*◌, ◌/◌, ◌%◌, ◌<◌, ◌≤◌, ◌==◌, Bool, true, false, not, ◌&&◌, List, [], ◌∷◌, ◌++◌, Option, Some, None, max, bit_and, bit_or, refl, sym, ap, ◌∙◌, subst, arith, if◌then◌else◌, false≢true, none-some, same_Some, and_comm, or_comm, ScalarType, BinaryOperator, Not, Negate, Low, High, Double, height_of, type_of, TypedExpression, BinaryNode, TypesHold, computed, SourceState, Outcome, Gave, then_do, as_type, is_true, result_of, result_of_one, truth, values_of, Registers, Expression, ExpressionForm, ExpressionNumber, IsExpression, IsForm, IsNumber, IsValue, IsLocation, IsConstantList, IsConversion, IsEmbedded, IsUnary, IsBinary, IsCallOf, IsFunction, IsShift, IsInput, Facts, LabelNumber, Step, Does, at_place, Comparison, Question, LeftBelow, RightBelow, Equal, Between, Relation, Site, expression, is_quiet, number, agree, question_of, relation_of, fits_byte, SameAs, Opposite, Whatever, Joined, Other, branch_setting, branch_steps, by_bit_steps, equality_steps, is_odd, outcome_branch_steps, shape_of, shape_of_form, shape_steps, other_steps, relation_outcome, relation_steps, equality_of_words, low_difference_steps, words_asked, words_of, words_steps, knowing, jumps_once, Context, IsSound, nodes_in, StepsStand, PartThere, BranchDoes, Parts, PartDoes, in_order, not-not}
+use Rattle.task_laws.proofs.Prelude.{◌≡◌, ℕ, zero, suc, ◌+◌, ◌-◌, ◌*◌, ◌/◌, ◌<◌, ◌≤◌, ◌==◌, Bool, true, false, not, ◌&&◌, List, [], ◌∷◌, ◌++◌, Option, Some, None, max, bit_and, bit_or, refl, sym, ap, ◌∙◌, subst, arith, if◌then◌else◌, false≢true, none-some, same_Some, and_comm, or_comm, ScalarType, BinaryOperator, Not, Negate, height_of, type_of, TypedExpression, BinaryNode, TypesHold, computed, SourceState, Outcome, Gave, then_do, as_type, is_true, result_of, result_of_one, truth, values_of, Registers, Expression, ExpressionForm, ExpressionNumber, IsExpression, IsForm, IsNumber, IsValue, IsLocation, IsConstantList, IsConversion, IsEmbedded, IsUnary, IsBinary, IsCallOf, IsFunction, IsShift, IsInput, Facts, LabelNumber, Step, Does, at_place, Comparison, Question, LeftBelow, RightBelow, Equal, Between, Relation, Site, expression, is_quiet, number, agree, question_of, relation_of, fits_byte, SameAs, Opposite, Whatever, Joined, Other, branch_setting, branch_steps, by_bit_steps, equality_steps, is_odd, outcome_branch_steps, shape_of, shape_of_form, shape_steps, other_steps, relation_outcome, relation_steps, equality_of_words, low_difference_steps, words_asked, words_of, words_steps, knowing, jumps_once, Context, IsSound, nodes_in, StepsStand, PartThere, BranchDoes, Parts, PartDoes, in_order, not-not, byte_taken, function_of}
+use Rattle.operands8080.specs.declared.branches.Shape.{Shape}
+use Rattle.trees.proofs.TakenBytes.{by_byte}
+use Rattle.meaning.proofs.FunctionResults.{low_byte_kept}
 use Rattle.trees.specs.declared.declaration.ScalarType.TheVariants as scalars
 use Rattle.trees.specs.declared.expression.BinaryOperator.TheVariants as operators
 use Rattle.operands8080.specs.{declared.branches.Branch.{Branch}, declared.branches.Shape.TheVariants.{Known}}
@@ -450,16 +453,18 @@ module _
       same_as condition inner bound tree inside (λ v. as_type scalar v) part types fewer (λ t. refl)
       (λ v small. type_keeps_bit scalar v) (λ single. single) stand stage
   form_jumps condition whole_bound bound tree _ node types fewer
-      (IsFunction {function = Low} {operand = operand} {tree = inside} part) stand stage =
-      same_as condition operand bound tree inside (λ v. v % 256) part types (omega (arith, fewer)) (λ t. refl)
-      (λ v small. low_keeps_bit v) (λ is. absurd (false≢true is)) stand stage
-  form_jumps condition whole_bound bound tree _ node types fewer
-      (IsFunction {function = Double} {operand = operand} {tree = inside} part) stand stage =
-      same_as condition operand bound tree inside (λ v. v) part types (omega (arith, fewer)) (λ t. refl)
-      (λ v small. refl) (λ is. absurd (false≢true is)) stand stage
-  form_jumps condition whole_bound bound tree _ node types fewer
-      (IsFunction {function = High} part) stand stage =
-      others_jump condition whole_bound tree node types fewer stand stage
+      (IsFunction {function = function} {operand = operand} {tree = inside} part) stand stage =
+      by_byte
+      (λ (shape : Shape). StepsStand context (PartDoes context) facts from
+      (shape_steps (knowing context.site facts) shape condition branch label) last to → Jumps tree)
+      (byte_taken function) (SameAs operand) Other
+      (λ low stands. same_as condition operand bound tree inside (λ v. function_of function v) part types
+      (omega (arith, fewer)) (λ t. refl)
+      (λ v small. sym (low_keeps_bit (function_of function v))
+      ∙ ap is_true (low_byte_kept function low v) ∙ low_keeps_bit v)
+      (λ is. absurd (false≢true is)) stands stage)
+      (λ _ stands. others_jump condition whole_bound tree node types fewer stands stage)
+      stand
   form_jumps condition whole_bound bound tree _ node types fewer
       (IsUnary {scalar = scalar} {operator = Not} {operand = operand} {tree = inside} part) stand stage =
       opposite_of condition operand bound tree inside (λ v. result_of_one scalar Not v) part types.0

@@ -1,6 +1,10 @@
 -- The code of the low byte of an expression does what the expression means.
-use Rattle.task_laws.proofs.Prelude.{◌≡◌, ℕ, ◌+◌, ◌-◌, ◌*◌, ◌/◌, ◌%◌, ◌<◌, ◌≤◌, true, false, [], ◌∷◌, ◌++◌, Option, Some, None, option_and_then, refl, sym, ap, ◌∙◌, subst, arith, false≢true, none-some, option_map_or, ScalarType, UnaryOperator, Not, Negate, Low, High, Double, height_of, type_of, type_of_target, AssignmentNode, ConversionNode, FunctionNode, TypedExpression, TypedTarget, UnaryNode, TypesHold, TypesHoldInTarget, SourceState, Gave, then_do, as_type, result_of_one, values_of, Cma, Inr, Of, A, Expression, ExpressionForm, ExpressionNumber, Place, Reference, Target, IsExpression, IsTarget, IsStored, IsSent, IsForm, IsNumber, IsValue, IsLocation, IsConstantList, IsConversion, IsEmbedded, IsUnary, IsBinary, IsCallOf, IsFunction, IsShift, IsInput, source, known_of, place_of_reference, Facts, part, is_free, known, memory_of, relation_of, relation_of_form, expression, scalar_of, byte_in_memory_steps, byte_form_steps, byte_function_steps, byte_of_two_steps, byte_steps, byte_unary_steps, called_byte_steps, embedded_steps, known_byte_steps, low_of_value_steps, call_steps, value_task, knowing, Context, IsSound, nodes_in, StepsStand, ByteDoes, PartDoes, as_type_fits}
+use Rattle.task_laws.proofs.Prelude.{◌≡◌, ℕ, ◌+◌, ◌-◌, ◌*◌, ◌/◌, ◌%◌, ◌<◌, ◌≤◌, true, false, [], ◌∷◌, ◌++◌, Option, Some, None, option_and_then, refl, sym, ap, ◌∙◌, subst, arith, false≢true, none-some, option_map_or, ScalarType, UnaryOperator, Not, Negate, height_of, type_of, type_of_target, AssignmentNode, ConversionNode, FunctionNode, TypedExpression, TypedTarget, UnaryNode, TypesHold, TypesHoldInTarget, SourceState, Gave, then_do, as_type, result_of_one, values_of, Cma, Inr, Of, A, Expression, ExpressionForm, ExpressionNumber, Place, Reference, Target, IsExpression, IsTarget, IsStored, IsSent, IsForm, IsNumber, IsValue, IsLocation, IsConstantList, IsConversion, IsEmbedded, IsUnary, IsBinary, IsCallOf, IsFunction, IsShift, IsInput, source, known_of, place_of_reference, Facts, part, is_free, known, memory_of, relation_of, relation_of_form, expression, scalar_of, byte_in_memory_steps, byte_form_steps, byte_function_steps, byte_of_two_steps, byte_steps, byte_unary_steps, called_byte_steps, embedded_steps, known_byte_steps, low_of_value_steps, call_steps, value_task, knowing, Context, IsSound, nodes_in, StepsStand, ByteDoes, PartDoes, as_type_fits, UnaryFunction, LowByte, HighByte, byte_taken, type_of_function, function_of, List, Step, high_byte_steps}
+use Rattle.trees.proofs.TakenBytes.{by_byte}
+use Rattle.meaning.proofs.FunctionResults.{high_byte_given, low_byte_kept, function_fits}
+use Rattle.treecode.proofs.TakenBytes.{free_if_direct, free_of_operand}
 use Rattle.trees.specs.declared.declaration.ScalarType.TheVariants as scalars
+use Rattle.treecode.specs.declared.expression.ExpressionForm.TheVariants as forms
 use Rattle.steps8080.specs.declared.step.Task.TheVariants as tasks
 use Rattle.task_laws.proofs.Bytes.ByteBinaries.{IsElsewhere, binary_law, never_free, shift_law}
 use Rattle.task_laws.proofs.Bytes.ByteCode.{ByteCarried, OfOne, beside_a, beside_itself, byte_makes}
@@ -11,7 +15,7 @@ use Rattle.task_laws.proofs.Loads.BytesInMemory.{memory_same}
 use Rattle.task_laws.proofs.Bytes.BytesThere.{there_law}
 use Rattle.task_laws.proofs.Stores.EmbeddedBytes.{embedded_byte, embedded_low_byte}
 use Rattle.task_laws.proofs.Bytes.HighHalves.{high_byte_law}
-use Rattle.task_laws.proofs.Machine.KnownOperands.{high_fits, word_fits}
+use Rattle.task_laws.proofs.Machine.KnownOperands.{high_fits}
 use Rattle.task_laws.proofs.Bytes.LowBytes.{called_law, input_law, location_law}
 use Rattle.task_laws.proofs.Machine.Nodes.{NodeOf, node_of}
 use Rattle.task_laws.proofs.Ranges.Ranges.{value_fits}
@@ -90,6 +94,60 @@ module _ (context : Context) (sound : IsSound context) (asked : BytesAsked conte
       (λ is_free_now r. beside_a _ _ r)
       (λ v fits. negative_byte scalar v (subst (λ (of : ScalarType). v < values_of of) same fits)) stand
 
+  -- a function that takes the low byte
+  low_function_law :
+      {facts last : Facts} {number inner : ExpressionNumber} {inside : TypedExpression}
+      {bound pushed from to : ℕ}
+      (function : UnaryFunction) → byte_taken function ≡ LowByte
+      → IsExpression (nodes_in context) context.storage bound inner.index inside
+      → IsElsewhere context facts number (forms.Function function inner) (FunctionNode function inside)
+      → StepsStand context (PartDoes context) facts from (part (tasks.Byte inner) pushed ∷ []) last to
+      → ByteCarried context facts number (FunctionNode function inside) pushed from last to
+  low_function_law {number = number} {inner = inner} {inside = inside} function low is node stand =
+      byte_makes context sound
+      (of_part {number = number} {tree = FunctionNode function inside} (λ v. function_of function v) is
+      node.types (omega arith) (λ t. refl)
+      (λ v fits. function_fits function (type_of inside) v fits)
+      (λ free. free_is context.site inner
+      ∙ sym (free_of_operand (nodes_in context) (type_of_function function) function inner low)
+      ∙ sym node.free ∙ free))
+      [] (λ x. x) tt (λ r small. refl) (λ free r. beside_itself r)
+      (λ v fits. sym (low_byte_kept function low v)) stand
+
+  -- a function that takes the high byte
+  high_function_law :
+      {facts last : Facts} {number inner : ExpressionNumber} {inside : TypedExpression}
+      {bound pushed from to : ℕ}
+      (function : UnaryFunction) → byte_taken function ≡ HighByte
+      → IsExpression (nodes_in context) context.storage bound inner.index inside
+      → IsElsewhere context facts number (forms.Function function inner) (FunctionNode function inside)
+      → StepsStand context (PartDoes context) facts from
+      (high_byte_steps (knowing context.site facts) inner pushed) last to
+      → ByteCarried context facts number (FunctionNode function inside) pushed from last to
+  high_function_law {facts = facts} {last = last} {number = number} {inner = inner} {inside = inside}
+      {to = to} function high is node stand =
+      λ top base s r memory below room ready known_before nothing.
+      at_carried {top = top} {need = 2 * height_of (FunctionNode function inside)} {base = base} _ _ _
+      (high_byte_law sound is node.types stand) (omega arith) tt
+      (λ v now memory_now (made : HighIsGiven context last r memory v now memory_now). made.known)
+      (record { below = below; room = room; ready = ready; known = known_before })
+      (λ v u now memory_now same made final.
+      let fits =
+      value_fits s sound is node.types (Rattle.task_laws.proofs.Ranges.Ranges.ready_fits context s ready)
+      same in
+      let result : v / 256 ≡ function_of function v = sym (high_byte_given function high v) in
+      byte_given to number (function_of function v)
+      (made.a ∙ high_itself v (high_fits v (type_of inside) fits) ∙ ap (λ m. m % 256) result)
+      (function_fits function (type_of inside) v fits)
+      (λ free.
+      absurd (false≢true
+      (sym (ap (λ (found : Option Reference). option_map_or
+      (λ (one : Reference). Rattle.std.specs.Prelude.is_some (place_of_reference (nodes_in context) one))
+      found false) node.elsewhere)
+      ∙ sym (free_if_direct (nodes_in context) (type_of_function function) function inner high)
+      ∙ sym node.free ∙ free)))
+      final)
+
   -- an expression that is neither known nor in memory
   form_law :
       {facts last : Facts} {number : ExpressionNumber} {form : ExpressionForm} {tree : TypedExpression}
@@ -111,40 +169,15 @@ module _ (context : Context) (sound : IsSound context) (asked : BytesAsked conte
       (omega arith) (λ t. refl)
       (λ v fits. as_type_fits scalar v) (λ free. free_is context.site inner ∙ sym node.free ∙ free))
       [] (λ x. x) tt (λ r small. refl) (λ free r. beside_itself r) (λ v fits. type_byte scalar v) stand
-  form_law {number = number} (IsFunction {function = Low} {operand = inner} {tree = inside} is) node stand =
-      byte_makes context sound
-      (of_part {number = number} {tree = FunctionNode Low inside} (λ v. v % 256) is node.types
-      (omega arith) (λ t. refl)
-      (λ v fits. omega arith) (λ free. free_is context.site inner ∙ sym node.free ∙ free))
-      [] (λ x. x) tt (λ r small. refl) (λ free r. beside_itself r) (λ v fits. omega arith) stand
-  form_law {number = number} (IsFunction {function = Double} {operand = inner} {tree = inside} is) node
-      stand =
-      byte_makes context sound
-      (of_part {number = number} {tree = FunctionNode Double inside} (λ v. v) is node.types
-      (omega arith) (λ t. refl)
-      (λ v fits. word_fits v (type_of inside) fits)
-      (λ free. free_is context.site inner ∙ sym node.free ∙ free))
-      [] (λ x. x) tt (λ r small. refl) (λ free r. beside_itself r) (λ v fits. refl) stand
-  form_law {facts = facts} {last = last} {number = number} {to = to}
-      (IsFunction {function = High} {operand = inner} {tree = inside} is) node stand =
-      λ top base s r memory below room ready known_before nothing.
-      at_carried {top = top} {need = 2 * height_of (FunctionNode High inside)} {base = base} _ _ _
-      (high_byte_law sound is node.types stand) (omega arith) tt
-      (λ v now memory_now (high : HighIsGiven context last r memory v now memory_now). high.known)
-      (record { below = below; room = room; ready = ready; known = known_before })
-      (λ v u now memory_now same high final.
-      let fits =
-      value_fits s sound is node.types (Rattle.task_laws.proofs.Ranges.Ranges.ready_fits context s ready)
-      same in
-      let small : v / 256 < 256 = high_fits v (type_of inside) fits in
-      byte_given to number (v / 256) (high.a ∙ high_itself v small) small
-      (λ free.
-      absurd (false≢true
-      (sym (ap (λ (found : Option Reference). option_map_or
-      (λ (one : Reference). Rattle.std.specs.Prelude.is_some (place_of_reference (nodes_in context) one))
-      found false) node.elsewhere)
-      ∙ sym node.free ∙ free)))
-      final)
+  form_law {facts = facts} {last = last} {number = number} {pushed = pushed} {from = from} {to = to}
+      (IsFunction {function = function} {operand = inner} {tree = inside} is) node stand =
+      by_byte
+      (λ (steps : List Step). StepsStand context (PartDoes context) facts from steps last to
+      → ByteCarried context facts number (FunctionNode function inside) pushed from last to)
+      (byte_taken function) _ _
+      (λ low stands. low_function_law function low is node stands)
+      (λ high stands. high_function_law function high is node stands)
+      stand
   form_law {number = number} (IsUnary {scalar = scalar} {operator = operator} {operand = inner} is) node
       stand =
       unary_law operator is (node.types).0 (node.types).1

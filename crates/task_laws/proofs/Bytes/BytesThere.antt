@@ -1,5 +1,9 @@
 -- The low byte of a value in memory.
-use Rattle.task_laws.proofs.Prelude.{◌≡◌, ℕ, ◌*◌, ◌/◌, ◌%◌, ◌<◌, ◌≤◌, true, false, Option, Some, None, is_some, option_and_then, refl, sym, ap, ◌∙◌, subst, arith, false≢true, none-some, same_Some, option_map_or, ScalarType, Byte, Address, Low, High, Double, height_of, height_of_reference, type_of, FunctionNode, TypedExpression, TypedReference, ValueNode, RefersToScalar, TypesHold, TypesHoldInReference, read_scalar, SourceState, Outcome, Gave, then_do, as_type, values_of, Expression, ExpressionForm, ExpressionNumber, Home, Place, Reference, IndexNode, converted_place, function_of_place, place_of_part, IsExpression, IsReference, IsForm, IsNumber, IsValue, IsLocation, IsConstantList, IsConversion, IsEmbedded, IsUnary, IsBinary, IsCallOf, IsFunction, IsShift, IsInput, home_at, byte_after, distance_of, free_at, is_free_form, known_at, known_of, memory_of_form, memory_of_inner, no_traits, place_of_reference, same_low_byte, traits_of, Arrives, Does, loaded_of, at_place, Facts, Base, base_after, base_of, is_free, location_of, located_at, memory_of, reference_after, split, byte_in_memory_steps, knowing, Context, IsSound, nodes_in, StepsStand, ByteIsGiven, PartDoes, as_type_fits, high_is_byte}
+use Rattle.task_laws.proofs.Prelude.{◌≡◌, ℕ, ◌*◌, ◌/◌, ◌%◌, ◌<◌, ◌≤◌, true, false, Option, Some, None, is_some, option_and_then, refl, sym, ap, ◌∙◌, subst, arith, false≢true, none-some, same_Some, option_map_or, ScalarType, Byte, Address, height_of, height_of_reference, type_of, FunctionNode, TypedExpression, TypedReference, ValueNode, RefersToScalar, TypesHold, TypesHoldInReference, read_scalar, SourceState, Outcome, Gave, then_do, as_type, values_of, Expression, ExpressionForm, ExpressionNumber, Home, Place, Reference, IndexNode, converted_place, function_of_place, place_of_part, IsExpression, IsReference, IsForm, IsNumber, IsValue, IsLocation, IsConstantList, IsConversion, IsEmbedded, IsUnary, IsBinary, IsCallOf, IsFunction, IsShift, IsInput, home_at, byte_after, distance_of, free_at, is_free_form, known_at, known_of, memory_of_form, memory_of_inner, no_traits, place_of_reference, same_low_byte, traits_of, Arrives, Does, loaded_of, at_place, Facts, Base, base_after, base_of, is_free, location_of, located_at, memory_of, reference_after, split, byte_in_memory_steps, knowing, Context, IsSound, nodes_in, StepsStand, ByteIsGiven, PartDoes, as_type_fits, inl, inr, UnaryFunction, HighByte, byte_taken, type_of_function, function_of}
+use Rattle.treecode.specs.internal.Traits.{high_in_memory}
+use Rattle.trees.proofs.TakenBytes.{by_byte}
+use Rattle.meaning.proofs.FunctionResults.{high_byte_given, low_byte_kept, function_fits}
+use Rattle.treecode.proofs.TakenBytes.{free_if_direct, free_of_operand, low_byte_of_itself, low_byte_of_operand, memory_of_high, taken}
 use Rattle.treecode.specs.declared.expression.ExpressionForm.TheVariants as forms
 use Rattle.treecode.specs.declared.place.Home.TheVariants as homes
 use Rattle.treecode.specs.declared.place.Location.TheVariants as locations
@@ -11,7 +15,7 @@ use Rattle.task_laws.proofs.Loads.ByteLoads.{ByteIsLoaded, byte_in_memory_law}
 use Rattle.task_laws.proofs.Loads.BytesInMemory.{memory_same}
 use Rattle.task_laws.proofs.Machine.Effects.{then_again}
 use Rattle.task_laws.proofs.Bytes.HighBytes.{HighIsLoaded, high_in_memory_law}
-use Rattle.task_laws.proofs.Machine.KnownOperands.{bytes_differ, word_fits}
+use Rattle.task_laws.proofs.Machine.KnownOperands.{bytes_differ}
 use Rattle.task_laws.proofs.Places.Located.{located_in}
 use Rattle.task_laws.proofs.Machine.Nodes.{NodeOf, node_of}
 use Rattle.task_laws.proofs.Machine.SiteNodes.{free_is, value_in}
@@ -124,38 +128,68 @@ module _ (context : Context) (sound : IsSound context) where
         direct = λ is. lies.direct (free is);
       }
 
-  -- HIGH of an ADDRESS in memory
+  -- a function that takes the high byte of an ADDRESS in memory
   high_inner :
       {bound : ℕ} {base : Reference} {inner : TypedExpression} {reference : Reference}
-      (operand : ExpressionNumber)
+      (function : UnaryFunction) (operand : ExpressionNumber)
+      → byte_taken function ≡ HighByte
       → IsForm (nodes_in context) context.storage bound (forms.Value base) inner
       → TypesHold context.typed context.within inner
       → type_of inner ≡ Address
       → reference_after base 1 ≡ reference
-      → known_of (nodes_in context) Byte (forms.Function High operand) ≡ None
-      → (is_free_form (nodes_in context) Byte (forms.Function High operand) ≡ true
+      → known_of (nodes_in context) (type_of_function function) (forms.Function function operand) ≡ None
+      → (is_free_form (nodes_in context) (type_of_function function) (forms.Function function operand) ≡ true
       → is_some (place_of_reference (nodes_in context) reference) ≡ true)
-      → LiesAs context (forms.Function High operand) (FunctionNode High inner) reference
-  high_inner {bound = bound} {base = base} {reference = reference} operand
+      → LiesAs context (forms.Function function operand) (FunctionNode function inner) reference
+  high_inner {bound = bound} {base = base} {reference = reference} function operand high
       (IsValue {scalar = Address} {part = part} is) types address same unknown direct =
       record {
         bound = bound;
         scalar = Address;
         base = base;
         part = part;
-        g = λ v. v / 256;
+        g = λ v. function_of function v;
         is = is;
         refers = types.0;
         types = types.1;
         means = λ s. refl;
-        small = λ v fits. high_is_byte v fits;
+        small = λ v fits. function_fits function Address v fits;
         fewer = omega arith;
-        half = subst (λ (one : Reference). IsHalf (λ v. v / 256) Address base one) same
-            (HighHalf (λ v fits. high_byte_of v fits));
+        half = subst (λ (one : Reference). IsHalf (λ v. function_of function v) Address base one) same
+            (HighHalf (λ v fits. ap (λ n. n % 256) (high_byte_given function high v) ∙ high_byte_of v fits));
         unknown = unknown;
         direct = direct;
       }
-  high_inner operand (IsValue {scalar = Byte} is) types address same unknown direct = bytes_differ address
+  high_inner function operand high (IsValue {scalar = Byte} is) types address same unknown direct =
+      bytes_differ address
+
+  function_inner :
+      {bound : ℕ} {inner : TypedExpression} {reference : Reference}
+      (function : UnaryFunction) (operand : ExpressionNumber)
+      → byte_taken function ≡ HighByte
+      → IsExpression (nodes_in context) context.storage bound operand.index inner
+      → TypesHold context.typed context.within inner
+      → high_in_memory (nodes_in context) operand ≡ Some reference
+      → LiesAs context (forms.Function function operand) (FunctionNode function inner) reference
+  function_inner {inner = inner} {reference = reference} function operand high is types same =
+      let node : NodeOf context operand inner = node_of sound is in
+      let there : byte_after (type_of inner) node.found.form ≡ Some reference =
+      sym (ap (λ (found : Option Expression). option_and_then
+      (λ (one : Expression). byte_after one.traits.scalar one.form) found) node.is_there
+      ∙ ap (λ (scalar : ScalarType). byte_after scalar node.found.form) node.scalar) ∙ same in
+      let only = only_value (type_of inner) node.found.form there in
+      high_inner function operand high
+      (subst (λ (form : ExpressionForm). IsForm (nodes_in context) context.storage operand.index form inner)
+      only.1 node.form)
+      types only.2 only.3
+      (ap (λ (found : Option Place). option_and_then (function_of_place function) found)
+      (known_in_table node ∙ ap (λ (form : ExpressionForm). known_of (nodes_in context) (type_of inner) form)
+      only.1))
+      (λ free.
+      sym (ap (λ (found : Option Reference). option_map_or
+      (λ (one : Reference). is_some (place_of_reference (nodes_in context) one)) found false)
+      (memory_of_high (nodes_in context) function operand high ∙ same))
+      ∙ sym (free_if_direct (nodes_in context) (type_of_function function) function operand high) ∙ free)
 
   -- the byte inside
   lies_inner :
@@ -184,27 +218,13 @@ module _ (context : Context) (sound : IsSound context) where
         unknown = refl;
         direct = λ free. free;
       })
-  lies_inner {reference = reference} (IsFunction {function = High} {operand = operand} {tree = inner} is)
+  lies_inner {reference = reference} (IsFunction {function = function} {operand = operand} {tree = inner} is)
       types same =
-      let node : NodeOf context operand inner = node_of sound is in
-      let there : byte_after (type_of inner) node.found.form ≡ Some reference =
-      sym (ap (λ (found : Option Expression). option_and_then
-      (λ (one : Expression). byte_after one.traits.scalar one.form) found) node.is_there
-      ∙ ap (λ (scalar : ScalarType). byte_after scalar node.found.form) node.scalar) ∙ same in
-      let only = only_value (type_of inner) node.found.form there in
-      high_inner operand
-      (subst (λ (form : ExpressionForm). IsForm (nodes_in context) context.storage operand.index form inner)
-      only.1 node.form)
-      types only.2 only.3
-      (ap (λ (found : Option Place). option_and_then (function_of_place High) found)
-      (known_in_table node ∙ ap (λ (form : ExpressionForm). known_of (nodes_in context) (type_of inner) form)
-      only.1))
-      (λ free.
-      sym (ap (λ (found : Option Reference). option_map_or
-      (λ (one : Reference). is_some (place_of_reference (nodes_in context) one)) found false) same)
-      ∙ free)
-  lies_inner (IsFunction {function = Low} is) types same = absurd (none-some _ same)
-  lies_inner (IsFunction {function = Double} is) types same = absurd (none-some _ same)
+      by_byte
+      (λ (found : Option Reference). found ≡ Some reference
+      → LiesAs context (forms.Function function operand) (FunctionNode function inner) reference)
+      (byte_taken function) None (high_in_memory (nodes_in context) operand)
+      (λ _ its. absurd (none-some _ its)) (λ high its. function_inner function operand high is types its) same
   lies_inner IsNumber types same = absurd (none-some _ same)
   lies_inner (IsLocation is) types same = absurd (none-some _ same)
   lies_inner IsConstantList types same = absurd (none-some _ same)
@@ -255,30 +275,29 @@ module _ (context : Context) (sound : IsSound context) where
       (ap (λ (found : Option Place). option_and_then (converted_place scalar) found)
       (known_in_table node ∙ inside.unknown))
       (inside_free node inside.unknown)
-  lies_step f next (IsFunction {function = Low} {operand = inner} {tree = tree} is) types same =
-      let node : NodeOf context inner tree = node_of sound is in
-      let inside = next _ _ _ _ node.form types
-      (sym (ap (λ (found : Option Expression).
-      memory_of_inner (nodes_in context)
-      (f (option_map_or (λ (one : Expression). one.form) found (forms.Function Low inner))))
-      node.is_there) ∙ same) in
-      around (λ n. n % 256) inside (λ s. refl) (λ n fits. omega arith) (λ n fits. omega arith) (omega arith)
-      (ap (λ (found : Option Place). option_and_then (function_of_place Low) found)
-      (known_in_table node ∙ inside.unknown))
-      (inside_free node inside.unknown)
-  lies_step f next (IsFunction {function = Double} {operand = inner} {tree = tree} is) types same =
-      let node : NodeOf context inner tree = node_of sound is in
-      let inside = next _ _ _ _ node.form types
-      (sym (ap (λ (found : Option Expression).
-      memory_of_inner (nodes_in context)
-      (f (option_map_or (λ (one : Expression). one.form) found (forms.Function Double inner))))
-      node.is_there) ∙ same) in
-      around (λ n. n) inside (λ s. refl) (λ n fits. word_fits n (type_of tree) fits)
-      (λ n fits. refl) (omega arith)
-      (ap (λ (found : Option Place). option_and_then (function_of_place Double) found)
-      (known_in_table node ∙ inside.unknown))
-      (inside_free node inside.unknown)
-  lies_step f next (IsFunction {function = High} is) types same = next _ _ _ _ (IsFunction is) types same
+  lies_step f next (IsFunction {function = function} {operand = inner} {tree = tree} is) types same =
+      elim (taken function) [
+        | inl low ↦
+            (let node : NodeOf context inner tree = node_of sound is in
+            let inside = next _ _ _ _ node.form types
+            (sym (ap (λ (found : Option Expression).
+            memory_of_inner (nodes_in context)
+            (f (option_map_or (λ (one : Expression). one.form) found (forms.Function function inner))))
+            node.is_there)
+            ∙ sym (ap (λ (form : ExpressionForm). memory_of_inner (nodes_in context) (f form))
+            (low_byte_of_operand (nodes_in context) function inner low)) ∙ same) in
+            around (λ n. function_of function n) inside (λ s. refl)
+            (λ n fits. function_fits function (type_of tree) n fits) (λ n fits. low_byte_kept function low n)
+            (omega arith)
+            (ap (λ (found : Option Place). option_and_then (function_of_place function) found)
+            (known_in_table node ∙ inside.unknown))
+            (λ free. inside_free node inside.unknown
+            (sym (free_of_operand (nodes_in context) (type_of_function function) function inner low) ∙ free)))
+        | inr high ↦
+            next _ _ _ _ (IsFunction is) types
+            (sym (ap (λ (form : ExpressionForm). memory_of_inner (nodes_in context) (f form))
+            (low_byte_of_itself (nodes_in context) function inner high)) ∙ same)
+      ]
   lies_step f next (IsValue is) types same = next _ _ _ _ (IsValue is) types same
   lies_step {bound = bound} f next IsNumber types same = next bound _ _ _ IsNumber types same
   lies_step f next (IsLocation is) types same = next _ _ _ _ (IsLocation is) types same

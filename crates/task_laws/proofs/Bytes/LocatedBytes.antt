@@ -1,5 +1,8 @@
 -- The low byte of an expression in memory: it is at the place of the part of an object that the tree names.
-use Rattle.task_laws.proofs.Prelude.{◌≡◌, ℕ, ◌*◌, ◌/◌, ◌%◌, ◌<◌, ◌≤◌, ◌⊎◌, inl, inr, List, Option, Some, refl, sym, ap, subst, ◌∙◌, arith, option_and_then, option_map_or, byte_at, ScalarType, Byte, Address, Low, High, Double, height_of, height_of_reference, type_of, ConversionNode, FunctionNode, PartOf, TypedExpression, TypedReference, ValueNode, RefersToScalar, TypesHold, TypesHoldInReference, next_place, place_in, read_scalar, SourceState, Outcome, Gave, Stop, Stopped, then_do, as_type, values_of, Registers, State, Expression, ExpressionForm, ExpressionNumber, Reference, IsBinary, IsCallOf, IsConstantList, IsConversion, IsEmbedded, IsExpression, IsForm, IsFunction, IsInput, IsLocation, IsNumber, IsReference, IsShift, IsUnary, IsValue, Does, Loaded, loaded_of, at_place, Arrives, IsReady, does_without_step, IsSteady, Facts, GoesOutside, memory, reference_after, knowing, Context, IsSound, nodes_in, AddressIsGiven, IsReferred, address_on_machine, as_type_fits, high_is_byte, same_Some, same_both, value_is_word}
+use Rattle.task_laws.proofs.Prelude.{◌≡◌, ℕ, ◌*◌, ◌/◌, ◌%◌, ◌<◌, ◌≤◌, ◌⊎◌, inl, inr, List, Option, Some, refl, sym, ap, subst, ◌∙◌, arith, option_and_then, option_map_or, byte_at, ScalarType, Byte, Address, height_of, height_of_reference, type_of, ConversionNode, FunctionNode, PartOf, TypedExpression, TypedReference, ValueNode, RefersToScalar, TypesHold, TypesHoldInReference, next_place, place_in, read_scalar, SourceState, Outcome, Gave, Stop, Stopped, then_do, as_type, values_of, Registers, State, Expression, ExpressionForm, ExpressionNumber, Reference, IsBinary, IsCallOf, IsConstantList, IsConversion, IsEmbedded, IsExpression, IsForm, IsFunction, IsInput, IsLocation, IsNumber, IsReference, IsShift, IsUnary, IsValue, Does, Loaded, loaded_of, at_place, Arrives, IsReady, does_without_step, IsSteady, Facts, GoesOutside, memory, reference_after, knowing, Context, IsSound, nodes_in, AddressIsGiven, IsReferred, address_on_machine, as_type_fits, same_Some, same_both, UnaryFunction, LowByte, HighByte, byte_taken, type_of_function, function_of, None}
+use Rattle.trees.proofs.TakenBytes.{by_byte}
+use Rattle.meaning.proofs.FunctionResults.{high_byte_given, low_byte_kept, function_fits}
+use Rattle.treecode.proofs.TakenBytes.{low_byte_of_itself, low_byte_of_operand, taken}
 use Rattle.meaning.specs.Access.{Place}
 use Rattle.treecode.specs.declared.expression.ExpressionForm.TheVariants as forms
 use Rattle.treecode.specs.internal.Traits as traits
@@ -148,13 +151,14 @@ module _ (context : Context) (sound : IsSound context) where
         (λ place t. read_scalar context.activation.around.program scalar place t)) same;
   }
 
-  -- its high byte
+  -- its high byte, which a function takes
   high_lies :
-      {bound : ℕ} {reference : Reference} (part : TypedReference)
+      {bound : ℕ} {reference : Reference} (function : UnaryFunction) (part : TypedReference)
+      → byte_taken function ≡ HighByte
       → IsReference (nodes_in context) context.storage bound reference part
       → TypesHold context.typed context.within (ValueNode Address part)
-      → ByteLies context (reference_after reference 1) (FunctionNode High (ValueNode Address part))
-  high_lies {bound = bound} {reference = reference} part is types =
+      → ByteLies context (reference_after reference 1) (FunctionNode function (ValueNode Address part))
+  high_lies {bound = bound} {reference = reference} function part takes is types =
       let next = next_lies context bound reference part is types.0 types.1 in
       let height_is = next.height in
       record {
@@ -167,21 +171,23 @@ module _ (context : Context) (sound : IsSound context) where
         gives = λ place s u top base memory r same ready.
             by place u memory (value_in context (ValueNode Address part) s)
             (high_found part place s u top base memory r sound types.0 same ready);
-        stops = λ why s u same. ap (λ (outcome : Outcome ℕ). then_do outcome (λ n t. Gave (n / 256) t))
+        stops = λ why s u same. ap
+            (λ (outcome : Outcome ℕ). then_do outcome (λ n t. Gave (function_of function n) t))
             (high_stops context part why s u same);
       }
     where
       by : (place : Place) (u : SourceState) (memory : List ℕ) (outcome : Outcome ℕ)
           → HighIsAt context (address_on_machine context.activation place) memory u outcome ⊎ GoesOutside
           outcome
-          → LowIsAt context Byte (address_on_machine context.activation place) memory u
-          (then_do outcome (λ n t. Gave (n / 256) t))
-          ⊎ GoesOutside (then_do outcome (λ n t. Gave (n / 256) t))
+          → LowIsAt context (type_of_function function) (address_on_machine context.activation place) memory u
+          (then_do outcome (λ n t. Gave (function_of function n) t))
+          ⊎ GoesOutside (then_do outcome (λ n t. Gave (function_of function n) t))
       by place u memory outcome (inl high) = inl (record {
-        found = high.found / 256;
-        is = ap (λ (given : Outcome ℕ). then_do given (λ n t. Gave (n / 256) t)) high.is;
-        low = high.high ∙ high_byte high.found high.small;
-        small = high_is_byte high.found high.small;
+        found = function_of function high.found;
+        is = ap (λ (given : Outcome ℕ). then_do given (λ n t. Gave (function_of function n) t)) high.is;
+        low = high.high ∙ high_byte high.found high.small
+            ∙ ap (λ n. n % 256) (sym (high_byte_given function takes high.found));
+        small = function_fits function Address high.found high.small;
         steady = high.steady;
       })
       by place u memory outcome (inr outside) = inr (then_outside outcome _ outside)
@@ -241,12 +247,13 @@ module _ (context : Context) (sound : IsSound context) where
 
   -- where its byte after it is one
   after_lies :
-      (reference : Reference) (operand : ExpressionNumber) (tree : TypedExpression)
+      (function : UnaryFunction) → byte_taken function ≡ HighByte
+      → (reference : Reference) (operand : ExpressionNumber) (tree : TypedExpression)
       (node : NodeOf context operand tree)
       → TypesHold context.typed context.within tree
       → traits.byte_after node.found.traits.scalar node.found.form ≡ Some reference
-      → ByteLies context reference (FunctionNode High tree)
-  after_lies reference operand tree node types told =
+      → ByteLies context reference (FunctionNode function tree)
+  after_lies function takes reference operand tree node types told =
       by operand.index node.found.form node.found.traits.scalar tree types node.scalar node.form told
     where
       by : (bound : ℕ) (form : ExpressionForm) (scalar : ScalarType) (tree : TypedExpression)
@@ -254,12 +261,13 @@ module _ (context : Context) (sound : IsSound context) where
           → scalar ≡ type_of tree
           → IsForm (nodes_in context) context.storage bound form tree
           → traits.byte_after scalar form ≡ Some reference
-          → ByteLies context reference (FunctionNode High tree)
+          → ByteLies context reference (FunctionNode function tree)
       by bound _ Address tree types same
           (IsValue {scalar = Address} {reference = inner} {part = part} is) told =
-          subst (λ (given : Reference). ByteLies context given (FunctionNode High (ValueNode Address part)))
+          subst
+          (λ (given : Reference). ByteLies context given (FunctionNode function (ValueNode Address part)))
           (same_Some _ _ told)
-          (high_lies part is types)
+          (high_lies function part takes is types)
       by bound _ Address tree types same (IsValue {scalar = Byte} is) told = absurd cc
       by bound _ Address tree types same other told = absurd cc
       by bound _ Byte tree types same other told = absurd cc
@@ -269,14 +277,17 @@ module _ (context : Context) (sound : IsSound context) where
   inner_lies bound _ _ reference (IsValue {scalar = scalar} {part = part} is) types told =
       subst (λ (given : Reference). ByteLies context given (ValueNode scalar part)) (same_Some _ _ told)
       (value_lies scalar part is types)
-  inner_lies bound _ _ reference (IsFunction {function = High} {operand = operand} {tree = tree} is) types
-      told =
+  inner_lies bound _ _ reference (IsFunction {function = function} {operand = operand} {tree = tree} is)
+      types told =
       let node = node_of {context = context} {number = operand} sound is in
-      after_lies reference operand tree node types
+      by_byte
+      (λ (found : Option Reference). found ≡ Some reference
+      → ByteLies context reference (FunctionNode function tree))
+      (byte_taken function) None (traits.high_in_memory (nodes_in context) operand) (λ _ its. absurd cc)
+      (λ takes its. after_lies function takes reference operand tree node types
       (sym (ap (λ (found : Option Expression). option_and_then
-      (λ (one : Expression). traits.byte_after one.traits.scalar one.form) found) node.is_there) ∙ told)
-  inner_lies bound _ _ reference (IsFunction {function = Low} is) types told = absurd cc
-  inner_lies bound _ _ reference (IsFunction {function = Double} is) types told = absurd cc
+      (λ (one : Expression). traits.byte_after one.traits.scalar one.form) found) node.is_there) ∙ its))
+      told
   inner_lies bound _ _ reference other types told = absurd cc
 
   conversion_inside :
@@ -287,23 +298,17 @@ module _ (context : Context) (sound : IsSound context) where
       inside_lies (ConversionNode scalar tree) tree (as_type scalar) (omega arith) (λ s. refl)
       (λ n small. type_byte scalar n) (λ n small. as_type_fits scalar n) lies
 
-  low_inside :
-      {reference : Reference} (tree : TypedExpression)
+  function_inside :
+      {reference : Reference} (function : UnaryFunction) (tree : TypedExpression)
+      → byte_taken function ≡ LowByte
       → ByteLies context reference tree
-      → ByteLies context reference (FunctionNode Low tree)
-  low_inside tree lies =
-      inside_lies (FunctionNode Low tree) tree (λ n. n % 256) (omega arith) (λ s. refl)
-      (λ n small. omega arith) (λ n small. omega arith) lies
+      → ByteLies context reference (FunctionNode function tree)
+  function_inside function tree low lies =
+      inside_lies (FunctionNode function tree) tree (λ n. function_of function n) (omega arith) (λ s. refl)
+      (λ n small. sym (low_byte_kept function low n)) (λ n small. function_fits function (type_of tree) n small)
+      lies
 
-  double_inside :
-      {reference : Reference} (tree : TypedExpression)
-      → ByteLies context reference tree
-      → ByteLies context reference (FunctionNode Double tree)
-  double_inside tree lies =
-      inside_lies (FunctionNode Double tree) tree (λ n. n) (omega arith) (λ s. refl)
-      (λ n small. refl) (λ n small. value_is_word (type_of tree) n small) lies
-
-  -- inside a conversion, LOW or DOUBLE too
+  -- inside a conversion, or a function that takes the low byte, too
   deeper :
       (tells : ExpressionForm → Option Reference)
       → LiesBy tells
@@ -316,24 +321,21 @@ module _ (context : Context) (sound : IsSound context) where
       (sym (ap (λ (found : Option Expression). tells
       (option_map_or (λ (one : Expression). one.form) found (forms.Conversion inner))) node.is_there)
       ∙ told))
-  deeper tells lies bound _ _ reference
-      (IsFunction {function = Low} {operand = inner} {tree = tree} is) types told =
-      let node = node_of {context = context} {number = inner} sound is in
-      low_inside tree
-      (lies inner.index node.found.form tree reference node.form types
-      (sym (ap (λ (found : Option Expression). tells
-      (option_map_or (λ (one : Expression). one.form) found (forms.Function Low inner))) node.is_there)
-      ∙ told))
-  deeper tells lies bound _ _ reference
-      (IsFunction {function = Double} {operand = inner} {tree = tree} is) types told =
-      let node = node_of {context = context} {number = inner} sound is in
-      double_inside tree
-      (lies inner.index node.found.form tree reference node.form types
-      (sym (ap (λ (found : Option Expression). tells
-      (option_map_or (λ (one : Expression). one.form) found (forms.Function Double inner))) node.is_there)
-      ∙ told))
-  deeper tells lies bound form tree reference (IsFunction {function = High} is) types told =
-      lies bound form tree reference (IsFunction is) types told
+  deeper tells lies bound form tree reference
+      (IsFunction {function = function} {operand = inner} {tree = operand} is) types told =
+      elim (taken function) [
+        | inl low ↦
+            (let node = node_of {context = context} {number = inner} sound is in
+            function_inside function operand low
+            (lies inner.index node.found.form operand reference node.form types
+            (sym (ap (λ (found : Option Expression). tells
+            (option_map_or (λ (one : Expression). one.form) found (forms.Function function inner)))
+            node.is_there)
+            ∙ sym (ap tells (low_byte_of_operand (nodes_in context) function inner low)) ∙ told)))
+        | inr takes ↦
+            lies bound form tree reference (IsFunction is) types
+            (sym (ap tells (low_byte_of_itself (nodes_in context) function inner takes)) ∙ told)
+      ]
   deeper tells lies bound form tree reference IsNumber types told =
       lies bound form tree reference IsNumber types told
   deeper tells lies bound form tree reference (IsValue is) types told =

@@ -1,5 +1,6 @@
 -- The byte in memory of an expression, at a site and according to its node.
-use Rattle.task_laws.proofs.Prelude.{◌≡◌, ℕ, Option, Some, None, slice_get, refl, sym, ap, ◌∙◌, option_map_or, option_and_then, ScalarType, Address, Byte, Low, High, Double, TypedExpression, Expression, ExpressionForm, ExpressionNumber, IsExpression, IsForm, IsNumber, IsValue, IsLocation, IsConstantList, IsConversion, IsEmbedded, IsUnary, IsBinary, IsCallOf, IsFunction, IsShift, IsInput, inside, Facts, form_in_memory, high_in_memory, high_of, memory, plain_in_memory, expression, knowing, Context, IsSound, nodes_in}
+use Rattle.task_laws.proofs.Prelude.{◌≡◌, ℕ, Option, Some, None, slice_get, refl, sym, ap, ◌∙◌, option_map_or, option_and_then, ScalarType, Address, Byte, TypedExpression, Expression, ExpressionForm, ExpressionNumber, IsExpression, IsForm, IsNumber, IsValue, IsLocation, IsConstantList, IsConversion, IsEmbedded, IsUnary, IsBinary, IsCallOf, IsFunction, IsShift, IsInput, inside, Facts, form_in_memory, high_in_memory, high_of, memory, plain_in_memory, expression, knowing, Context, IsSound, nodes_in, inl, inr, ByteOfValue, byte_taken, for_byte, Reference}
+use Rattle.treecode.proofs.TakenBytes.{low_byte_of_itself, low_byte_of_operand, taken}
 use Rattle.treecode.specs.declared.expression.ExpressionForm.TheVariants as forms
 use Rattle.treecode.specs.internal.Traits as traits
 use Rattle.steps8080.specs.internal.Queries.{same_low_byte}
@@ -47,9 +48,8 @@ module _ (context : Context) (sound : IsSound context) (facts : Facts) where
   form_same : (form : ExpressionForm) → form_in_memory (knowing context.site facts) form
       ≡ traits.memory_of_inner (nodes_in context) form
   form_same (forms.Value reference) = refl
-  form_same (forms.Function High operand) = high_same operand
-  form_same (forms.Function Low operand) = refl
-  form_same (forms.Function Double operand) = refl
+  form_same (forms.Function function operand) =
+      ap (λ (found : Option Reference). for_byte (byte_taken function) None found) (high_same operand)
   form_same (forms.Number n) = refl
   form_same (forms.Location reference) = refl
   form_same (forms.List offset) = refl
@@ -96,13 +96,27 @@ module _ (context : Context) (sound : IsSound context) (facts : Facts) where
       → Inside number form
   looked_into {number = number} node same (IsConversion {inner = inner} {tree = tree} is) =
       record { next = inner; tree = tree; node = node_of sound is; at_site = refl; in_nodes = through (forms.Conversion inner) is }
-  looked_into {number = number} node same (IsFunction {function = Low} {operand = inner} {tree = tree} is) =
-      record { next = inner; tree = tree; node = node_of sound is; at_site = refl; in_nodes = through (forms.Function Low inner) is }
-  looked_into {number = number} node same
-      (IsFunction {function = Double} {operand = inner} {tree = tree} is) =
-      record { next = inner; tree = tree; node = node_of sound is; at_site = refl; in_nodes = through (forms.Function Double inner) is }
-  looked_into {number = number} {tree = tree} node same (IsFunction {function = High} is) =
-      record { next = number; tree = tree; node = node; at_site = refl; in_nodes = same }
+  looked_into {number = number} {tree = tree} node same
+      (IsFunction {function = function} {operand = operand} {tree = inner} is) =
+      elim (taken function) [
+        | inl low ↦
+            record {
+              next = operand;
+              tree = inner;
+              node = node_of sound is;
+              at_site = ap (λ (byte : ByteOfValue). for_byte byte operand number) low;
+              in_nodes = low_byte_of_operand (nodes_in context) function operand low
+                  ∙ through (forms.Function function operand) is;
+            }
+        | inr high ↦
+            record {
+              next = number;
+              tree = tree;
+              node = node;
+              at_site = ap (λ (byte : ByteOfValue). for_byte byte operand number) high;
+              in_nodes = low_byte_of_itself (nodes_in context) function operand high ∙ same;
+            }
+      ]
   looked_into {number = number} {tree = tree} node same IsNumber =
       record { next = number; tree = tree; node = node; at_site = refl; in_nodes = same }
   looked_into {number = number} {tree = tree} node same (IsValue is) =

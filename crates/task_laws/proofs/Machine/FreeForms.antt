@@ -1,5 +1,6 @@
 -- Free expressions: a number is free, and a free expression in memory is quiet.
-use Rattle.task_laws.proofs.Prelude.{◌≡◌, ℕ, ◌+◌, ◌%◌, true, false, Option, Some, None, refl, sym, ap, ◌∙◌, is_some, slice_get, option_and_then, option_map_or, ScalarType, Byte, Address, High, TypedExpression, TypedReference, Storage, node_traits, Expression, ExpressionForm, ExpressionNumber, Place, Code, Data, External, Number, Reference, Traits, number_of_place, known_number, IsExpression, IsForm, IsNode, IsPart, IsReference, IsValue, Nodes, home_at, KeepTraits, byte_after, distance_of, free_at, is_direct, is_free_form, is_free_of, is_quiet_form, known_of, number_at, place_of_reference, quiet_at, traits_of, and_from, false≢true}
+use Rattle.task_laws.proofs.Prelude.{◌≡◌, ℕ, ◌+◌, ◌%◌, true, false, Option, Some, None, refl, sym, ap, ◌∙◌, is_some, slice_get, option_and_then, option_map_or, ScalarType, Byte, Address, TypedExpression, TypedReference, Storage, node_traits, Expression, ExpressionForm, ExpressionNumber, Place, Code, Data, External, Number, Reference, Traits, number_of_place, known_number, IsExpression, IsForm, IsNode, IsPart, IsReference, IsValue, Nodes, home_at, KeepTraits, byte_after, distance_of, free_at, is_direct, is_free_form, is_free_of, is_quiet_form, known_of, number_at, place_of_reference, quiet_at, traits_of, and_from, false≢true, UnaryFunction, HighByte, byte_taken}
+use Rattle.treecode.proofs.TakenBytes.{memory_of_high}
 use Rattle.treecode.specs.declared.expression.ExpressionForm.TheVariants as forms
 use Rattle.task_laws.proofs.Machine.KeptCode.{index_known_quiet, known_of_entry, known_quiet, part_known_quiet, place_known, quiet_of_entry}
 
@@ -86,14 +87,18 @@ module _ (nodes : Nodes) (storage : Storage) (keeps : KeepTraits nodes) where
 
   pub high_is_quiet :
       {bound : ℕ} {operand : ExpressionNumber} {tree : TypedExpression}
+      (function : UnaryFunction) → byte_taken function ≡ HighByte
       → IsExpression nodes storage bound operand.index tree
-      → is_direct nodes (forms.Function High operand) ≡ true
+      → is_direct nodes (forms.Function function operand) ≡ true
       → quiet_at nodes operand ≡ true
-  high_is_quiet {operand = operand} (IsNode {tree = tree} {expression = expression} below at scalar form)
-      direct =
+  high_is_quiet {operand = operand} function high
+      (IsNode {tree = tree} {expression = expression} below at scalar form) direct =
       quiet_of_entry nodes storage keeps operand.index expression at
       ∙ after_is_quiet expression.traits.scalar expression.form tree form
       (sym (ap (λ (found : Option Expression). option_map_or
       (λ (reference : Reference). is_some (place_of_reference nodes reference))
       (option_and_then (λ (one : Expression). byte_after one.traits.scalar one.form) found) false) at)
+      ∙ ap (λ (found : Option Reference). option_map_or
+      (λ (reference : Reference). is_some (place_of_reference nodes reference)) found false)
+      (sym (memory_of_high nodes function operand high))
       ∙ direct)

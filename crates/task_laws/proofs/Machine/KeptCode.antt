@@ -1,9 +1,11 @@
 -- An expression with code that keeps A or DE is quiet, and so is a known one.
-use Rattle.task_laws.proofs.Prelude.{◌≡◌, ℕ, zero, suc, ◌%◌, ◌<◌, ◌≤◌, ◌&&◌, ◌⊎◌, inl, inr, Bool, true, false, not, ◌||◌, if◌then◌else◌, Option, Some, None, is_some, option_and_then, option_map, slice_get, refl, sym, ap, subst, ◌∙◌, arith, and_parts, ScalarType, Byte, Address, Xor, Less, Greater, LessOrEqual, GreaterOrEqual, Unequal, Multiply, Divide, Modulo, Subscript, TypedExpression, TypedReference, Storage, Expression, ExpressionForm, Home, Place, Reference, IndexNode, Keeps, Traits, place_of_part, IsExpression, IsNode, IsForm, IsNumber, IsValue, IsLocation, IsConstantList, IsConversion, IsEmbedded, IsUnary, IsBinary, IsCallOf, IsFunction, IsShift, IsInput, IsReference, IsPart, IsSubscript, IsAbsent, IsIndex, Nodes, home_at, option_map_or, ShiftLeft, ShiftRight, RotateLeft, RotateRight, Low, High, Double, ExpressionNumber, KeepTraits, byte_after, distance_of, form_at, is_quiet_form, is_static_location, keeps_at, keeps_of, keeps_none, keeps_of_byte, keeps_of_extended, keeps_of_form, keeps_of_index, keeps_of_part, keeps_of_shift, keeps_of_subscript, keeps_of_sum, known_at, known_of, memory_of_form, memory_of_inner, number_at, place_of_reference, quiet_at, reference_is_quiet, same_low_byte, subscript_is_quiet, traits_at, traits_of, node_traits, and_from, false≢true, from_number, from_value, none-some}
+use Rattle.task_laws.proofs.Prelude.{◌≡◌, ℕ, zero, suc, ◌%◌, ◌<◌, ◌≤◌, ◌&&◌, ◌⊎◌, inl, inr, Bool, true, false, not, ◌||◌, if◌then◌else◌, Option, Some, None, is_some, option_and_then, option_map, slice_get, refl, sym, ap, subst, ◌∙◌, arith, and_parts, ScalarType, Byte, Address, Xor, Less, Greater, LessOrEqual, GreaterOrEqual, Unequal, Multiply, Divide, Modulo, Subscript, TypedExpression, TypedReference, Storage, Expression, ExpressionForm, Home, Place, Reference, IndexNode, Keeps, Traits, place_of_part, IsExpression, IsNode, IsForm, IsNumber, IsValue, IsLocation, IsConstantList, IsConversion, IsEmbedded, IsUnary, IsBinary, IsCallOf, IsFunction, IsShift, IsInput, IsReference, IsPart, IsSubscript, IsAbsent, IsIndex, Nodes, home_at, option_map_or, ShiftLeft, ShiftRight, RotateLeft, RotateRight, ExpressionNumber, KeepTraits, byte_after, distance_of, form_at, is_quiet_form, is_static_location, keeps_at, keeps_of, keeps_none, keeps_of_byte, keeps_of_extended, keeps_of_form, keeps_of_index, keeps_of_part, keeps_of_shift, keeps_of_subscript, keeps_of_sum, known_at, known_of, memory_of_form, memory_of_inner, number_at, place_of_reference, quiet_at, reference_is_quiet, same_low_byte, subscript_is_quiet, traits_at, traits_of, node_traits, and_from, false≢true, from_number, from_value, none-some, byte_taken}
+use Rattle.trees.proofs.TakenBytes.{by_byte}
+use Rattle.treecode.proofs.TakenBytes.{low_byte_of_itself, low_byte_of_operand, taken}
 use Rattle.trees.specs.declared.expression.BinaryOperator.TheVariants.{Or, And, Equal, Add, Subtract}
 use Rattle.treecode.specs.declared.expression.ExpressionForm.TheVariants as forms
 use Rattle.treecode.specs.declared.place.Home.TheVariants as homes
-use Rattle.treecode.specs.internal.Traits.{keeps_of_address}
+use Rattle.treecode.specs.internal.Traits.{high_in_memory, keeps_of_address}
 
 -- both subscripts of a known place are known
 pub place_known :
@@ -222,11 +224,13 @@ module _ (nodes : Nodes) (storage : Storage) (keeps : KeepTraits nodes) where
   low_step less whole (IsUnary operand) = same_step less refl whole
   low_step less whole (IsBinary left right) = same_step less refl whole
   low_step less whole (IsCallOf are) = same_step less refl whole
-  low_step less whole (IsFunction {function = Low} {operand = operand} node) =
-      inner_step (forms.Function Low operand) less refl refl node
-  low_step less whole (IsFunction {function = Double} {operand = operand} node) =
-      inner_step (forms.Function Double operand) less refl refl node
-  low_step less whole (IsFunction {function = High} node) = same_step less refl whole
+  low_step less whole (IsFunction {function = function} {operand = operand} node) =
+      elim (taken function) [
+        | inl low ↦
+            inner_step (forms.Function function operand) less (low_byte_of_operand nodes function operand low)
+            refl node
+        | inr high ↦ same_step less (low_byte_of_itself nodes function operand high) whole
+      ]
   low_step less whole (IsShift value count) = same_step less refl whole
   low_step less whole IsInput = same_step less refl whole
 
@@ -286,16 +290,19 @@ module _ (nodes : Nodes) (storage : Storage) (keeps : KeepTraits nodes) where
   inner_kept reference below less (IsUnary operand) is kept = absurd (none-some _ is)
   inner_kept reference below less (IsBinary left right) is kept = absurd (none-some _ is)
   inner_kept reference below less (IsCallOf are) is kept = absurd (none-some _ is)
-  inner_kept reference below less (IsFunction {function = Low} node) is kept = absurd (none-some _ is)
-  inner_kept reference below less (IsFunction {function = Double} node) is kept = absurd (none-some _ is)
   inner_kept reference below less
-      (IsFunction {function = High} {operand = operand}
+      (IsFunction {function = function} {operand = operand}
       (IsNode {expression = expression} less_than at scalar shape)) is kept =
-      quiet_of_entry operand.index expression at
+      by_byte
+      (λ (found : Option Reference). found ≡ Some reference
+      → is_quiet_form nodes (forms.Function function operand) ≡ true)
+      (byte_taken function) None (high_in_memory nodes operand) (λ _ its. absurd (none-some _ its))
+      (λ _ its. quiet_of_entry operand.index expression at
       ∙ high_kept expression.traits.scalar expression.form reference below
       (omega (arith, less_than, less)) shape
       (sym (ap (λ (found : Option Expression). option_and_then
-      (λ (one : Expression). byte_after one.traits.scalar one.form) found) at) ∙ is) kept
+      (λ (one : Expression). byte_after one.traits.scalar one.form) found) at) ∙ its) kept)
+      is
   inner_kept reference below less (IsShift value count) is kept = absurd (none-some _ is)
   inner_kept reference below less IsInput is kept = absurd (none-some _ is)
 

@@ -1,6 +1,7 @@
 -- Expressions at a site: values that are known as numbers or relocatable addresses, their range, and operands
 -- that may be evaluated in the other order.
-use Rattle.task_laws.proofs.Prelude.{◌≡◌, ℕ, ◌+◌, ◌-◌, ◌*◌, ◌/◌, ◌%◌, ◌^◌, ◌<◌, ◌≤◌, ◌==◌, Bool, true, false, ◌&&◌, ◌||◌, not, nat_lt, nat_le, if◌then◌else◌, Option, Some, None, is_some, option_map, slice_get, List, refl, sym, ap, ◌∙◌, subst, arith, length, option_and_then, option_map_or, and_le_l, or_of_8, or_of_16, xor_of_8, xor_of_16, ScalarType, Byte, Address, BinaryOperator, UnaryOperator, Not, Negate, ShiftFunction, ShiftLeft, ShiftRight, RotateLeft, RotateRight, UnaryFunction, Low, High, Double, type_of, type_of_function, type_of_result, TypedExpression, NumberNode, ValueNode, LocationNode, ListNode, ConversionNode, AssignmentNode, UnaryNode, BinaryNode, CallNode, FunctionNode, ShiftNode, InputNode, TypedModule, TypedReference, PartOf, Subscript, NoSubscript, At, ShiftsIn, TypesHold, TypesHoldInReference, TypesHoldInSubscript, Within, WorksOn, value, Ended, More, Outside, Outcome, Gave, Stopped, result_of, result_of_one, shifted, truth, turned, values_of, Machine, Expression, ExpressionForm, ExpressionNumber, Home, Place, Number, Code, Data, External, number_of_place, place_after, converted_place, function_of_place, known_number, known_subscript, known_value, place_of_part, result_of_known, result_of_place, shift_of_known, IsExpression, IsNode, IsForm, IsNumber, IsValue, IsLocation, IsConstantList, IsConversion, IsEmbedded, IsUnary, IsBinary, IsCallOf, IsFunction, IsShift, IsInput, home_at, HaveOperands, PartHasOperands, SubscriptHasOperands, known_at, no_traits, known_kept, AreAlike, AreSame, BothOutside, GoesOutside, may_exchange_at, in_order, exchanged, known_gives, operands_exchanged, Does, place_at, Facts, is_quiet, known, may_exchange, number, stores_nothing, expression, knowing, equal_below, Context, IsSound, NumbersAreWords, nodes_in, lt_of_le_of_lt}
+use Rattle.task_laws.proofs.Prelude.{◌≡◌, ℕ, ◌+◌, ◌-◌, ◌*◌, ◌/◌, ◌%◌, ◌^◌, ◌<◌, ◌≤◌, ◌==◌, Bool, true, false, ◌&&◌, ◌||◌, not, nat_lt, nat_le, if◌then◌else◌, Option, Some, None, is_some, option_map, slice_get, List, refl, sym, ap, ◌∙◌, subst, arith, length, option_and_then, option_map_or, and_le_l, or_of_8, or_of_16, xor_of_8, xor_of_16, ScalarType, Byte, Address, BinaryOperator, UnaryOperator, Not, Negate, ShiftFunction, ShiftLeft, ShiftRight, RotateLeft, RotateRight, UnaryFunction, type_of, type_of_function, type_of_result, TypedExpression, NumberNode, ValueNode, LocationNode, ListNode, ConversionNode, AssignmentNode, UnaryNode, BinaryNode, CallNode, FunctionNode, ShiftNode, InputNode, TypedModule, TypedReference, PartOf, Subscript, NoSubscript, At, ShiftsIn, TypesHold, TypesHoldInReference, TypesHoldInSubscript, Within, WorksOn, value, Ended, More, Outside, Outcome, Gave, Stopped, result_of, result_of_one, shifted, truth, turned, values_of, Machine, Expression, ExpressionForm, ExpressionNumber, Home, Place, Number, Code, Data, External, number_of_place, place_after, converted_place, function_of_place, known_number, known_subscript, known_value, place_of_part, result_of_known, result_of_place, shift_of_known, IsExpression, IsNode, IsForm, IsNumber, IsValue, IsLocation, IsConstantList, IsConversion, IsEmbedded, IsUnary, IsBinary, IsCallOf, IsFunction, IsShift, IsInput, home_at, HaveOperands, PartHasOperands, SubscriptHasOperands, known_at, no_traits, known_kept, AreAlike, AreSame, BothOutside, GoesOutside, may_exchange_at, in_order, exchanged, known_gives, operands_exchanged, Does, place_at, Facts, is_quiet, known, may_exchange, number, stores_nothing, expression, knowing, equal_below, Context, IsSound, NumbersAreWords, nodes_in, lt_of_le_of_lt, converted_address}
+use Rattle.meaning.proofs.FunctionResults.{function_fits}
 use Rattle.trees.specs.declared.expression.BinaryOperator.TheVariants as operators
 use Rattle.meaning.specs.Outcomes.{State}
 use Rattle.treecode.specs.declared.expression.ExpressionForm.TheVariants as forms
@@ -27,17 +28,19 @@ KnownFits (Some place) scalar = scalar ≡ Address
 pub bytes_differ : {A : Type 0} → Byte ≡ Address → A
 bytes_differ e = let bad : Byte ≡ Address = e in cc
 
+fits_address : (scalar : ScalarType) (place : Place) → KnownFits (Some place) Address
+    → KnownFits (converted_address scalar place) scalar
+fits_address Byte place fits = tt
+fits_address Address place fits = fits
+
 fits_conversion : (scalar of : ScalarType) (place : Option Place) → KnownFits place of
     → KnownFits (option_and_then (converted_place scalar) place) scalar
 fits_conversion scalar of None fits = tt
 fits_conversion Byte of (Some (Number n)) fits = omega arith
 fits_conversion Address of (Some (Number n)) fits = omega arith
-fits_conversion Byte of (Some (Code n)) fits = tt
-fits_conversion Byte of (Some (Data n)) fits = tt
-fits_conversion Byte of (Some (External n name)) fits = tt
-fits_conversion Address of (Some (Code n)) fits = refl
-fits_conversion Address of (Some (Data n)) fits = refl
-fits_conversion Address of (Some (External n name)) fits = refl
+fits_conversion scalar of (Some (Code n)) fits = fits_address scalar (Code n) refl
+fits_conversion scalar of (Some (Data n)) fits = fits_address scalar (Data n) refl
+fits_conversion scalar of (Some (External n name)) fits = fits_address scalar (External n name) refl
 
 pub one_fits : (scalar : ScalarType) (operator : UnaryOperator) (n : ℕ)
     → result_of_one scalar operator n < values_of scalar
@@ -65,18 +68,11 @@ word_fits n Address small = small
 fits_function : (function : UnaryFunction) (of : ScalarType) (place : Option Place) → KnownFits place of
     → KnownFits (option_and_then (function_of_place function) place) (type_of_function function)
 fits_function function of None fits = tt
-fits_function Low of (Some (Number n)) fits = omega arith
-fits_function High of (Some (Number n)) fits = high_fits n of fits
-fits_function Double of (Some (Number n)) fits = word_fits n of fits
-fits_function Low of (Some (Code n)) fits = tt
-fits_function High of (Some (Code n)) fits = tt
-fits_function Double of (Some (Code n)) fits = refl
-fits_function Low of (Some (Data n)) fits = tt
-fits_function High of (Some (Data n)) fits = tt
-fits_function Double of (Some (Data n)) fits = refl
-fits_function Low of (Some (External n name)) fits = tt
-fits_function High of (Some (External n name)) fits = tt
-fits_function Double of (Some (External n name)) fits = refl
+fits_function function of (Some (Number n)) fits = function_fits function of n fits
+fits_function function of (Some (Code n)) fits = fits_address (type_of_function function) (Code n) refl
+fits_function function of (Some (Data n)) fits = fits_address (type_of_function function) (Data n) refl
+fits_function function of (Some (External n name)) fits =
+    fits_address (type_of_function function) (External n name) refl
 
 turned_high : (byte count : ℕ) → byte < 256 → count < 8 → (256 * count + byte) / 256 ≡ count
 turned_high byte count small few = omega (arith, small)

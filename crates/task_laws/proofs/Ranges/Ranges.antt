@@ -1,5 +1,6 @@
 -- Values of expressions are of their types, provided that calls give such values.
-use Rattle.task_laws.proofs.Prelude.{◌≡◌, ℕ, ◌+◌, ◌-◌, ◌/◌, ◌%◌, ◌^◌, ◌<◌, ◌≤◌, ◌==◌, nat_lt, Bool, true, false, ◌||◌, bit_and, List, [], All, Option, Some, None, if◌then◌else◌, refl, sym, ap, ◌∙◌, subst, arith, All-from_get_or, and_le_l, and_le_r, false≢true, ltb-true, leb-true, eqb-false, byte_at, byte_small, ScalarType, Byte, Address, BinaryOperator, Greater, GreaterOrEqual, Less, LessOrEqual, Modulo, Unequal, ShiftFunction, ShiftRight, Low, High, Double, type_of, type_of_result, TypedExpression, BinaryNode, ShiftNode, TypesHold, frame_bytes, called_for, callee_in, computed, value, Outcome, Gave, then_do, as_type, result_of, shifted, values_of, Expression, ExpressionForm, IsBinary, IsCallOf, IsConstantList, IsConversion, IsEmbedded, IsExpression, IsForm, IsFunction, IsInput, IsLocation, IsNumber, IsShift, IsUnary, IsValue, IsReady, Registers, by_eight, ExpressionNumber, Facts, number_of, expression, scalar_at, fits_byte, fits_byte_by, shift_by_fits_byte, form_fits_byte, is_byte, is_number_below, result_fits_byte, shift_fits_byte, knowing, Context, IsSound, SourceFits, nodes_in}
+use Rattle.task_laws.proofs.Prelude.{◌≡◌, ℕ, ◌+◌, ◌-◌, ◌/◌, ◌%◌, ◌^◌, ◌<◌, ◌≤◌, ◌==◌, nat_lt, Bool, true, false, ◌||◌, bit_and, List, [], All, Option, Some, None, if◌then◌else◌, refl, sym, ap, ◌∙◌, subst, arith, All-from_get_or, and_le_l, and_le_r, false≢true, ltb-true, leb-true, eqb-false, byte_at, byte_small, ScalarType, Byte, Address, BinaryOperator, Greater, GreaterOrEqual, Less, LessOrEqual, Modulo, Unequal, ShiftFunction, ShiftRight, type_of, type_of_result, TypedExpression, BinaryNode, ShiftNode, TypesHold, frame_bytes, called_for, callee_in, computed, value, Outcome, Gave, then_do, as_type, result_of, shifted, values_of, Expression, ExpressionForm, IsBinary, IsCallOf, IsConstantList, IsConversion, IsEmbedded, IsExpression, IsForm, IsFunction, IsInput, IsLocation, IsNumber, IsShift, IsUnary, IsValue, IsReady, Registers, by_eight, ExpressionNumber, Facts, number_of, expression, scalar_at, fits_byte, fits_byte_by, shift_by_fits_byte, form_fits_byte, is_byte, is_number_below, result_fits_byte, shift_fits_byte, knowing, Context, IsSound, SourceFits, nodes_in, function_of}
+use Rattle.meaning.proofs.FunctionResults.{operand_given}
 use Rattle.trees.specs.declared.expression.BinaryOperator.TheVariants.{And, Equal}
 use Rattle.meaning.specs.Outcomes.{State}
 use Rattle.task_laws.proofs.Machine.Nodes.{NodeOf, node_of}
@@ -254,9 +255,11 @@ module _ (context : Context) (sound : IsSound context) (facts : Facts) where
       gives_then (meant inner s) (λ n t. Gave (as_type scalar n) t)
       (fits_node context sound s is types source)
       (λ n t one. IsGiven (lesser scalar n (of_type (type_of inner) Byte n (scalar_is is fits) one.0)))
-  form_below s (IsFunction {function = Double} {tree = inner} is) address types fits source =
-      gives_then (meant inner s) (λ n t. Gave n t) (fits_node context sound s is types source)
-      (λ n t one. IsGiven (of_type (type_of inner) Byte n (scalar_is is fits) one.0))
+  form_below s (IsFunction {function = function} {tree = inner} is) address types fits source =
+      gives_then (meant inner s) (λ n t. Gave (function_of function n) t)
+      (fits_node context sound s is types source)
+      (λ n t one. IsGiven (subst (λ m. m < 256) (sym (operand_given function address n))
+      (of_type (type_of inner) Byte n (scalar_is is fits) one.0)))
   form_below s
       (IsBinary {operands = operands} {operator = operator} {left = left} {right = right} {first = first}
       {second = second} one two) address types fits source =
@@ -277,8 +280,6 @@ module _ (context : Context) (sound : IsSound context) (facts : Facts) where
   form_below s (IsEmbedded target is) address types fits source = absurd (false≢true fits)
   form_below s (IsUnary is) address types fits source = absurd (false≢true fits)
   form_below s (IsCallOf given) address types fits source = absurd (false≢true fits)
-  form_below s (IsFunction {function = Low} is) address types fits source = absurd (false≢true fits)
-  form_below s (IsFunction {function = High} is) address types fits source = absurd (false≢true fits)
   form_below s IsInput address types fits source = absurd (false≢true fits)
 
   -- where the form of an expression shows that its value is below 256, it is

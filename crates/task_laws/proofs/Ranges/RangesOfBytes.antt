@@ -1,9 +1,9 @@
 -- Values that are read and written have their types: bytes of a state of the source, places, operators and
 -- functions.
-use Rattle.task_laws.proofs.Prelude.{◌≡◌, ◌≢◌, ◌⊎◌, inl, inr, ℕ, ◌+◌, ◌*◌, ◌/◌, ◌%◌, ◌<◌, ◌≤◌, Bool, true, false, List, [], length, All, option_map, Option, Some, None, slice_get, slice_index_or, slice_set, if◌then◌else◌, refl, subst, arith, option_map_or, All-get_or, All-nil, All-set, get_or_past, length-set, cases_lt, cases_eq, MEMORY_SIZE, byte_at, input_value, queue_of, reads_of, IsScript, ScalarType, Byte, Address, UnaryFunction, Low, High, Double, type_of_function, type_of_target, InData, InConstants, Placed, BasedOn, Elsewhere, Nowhere, InFrame, TypedModule, TypedTarget, StoredIn, SentTo, TypesHoldInTarget, Within, Reason, Constant, InMemory, InTheFrame, Surroundings, frame_bytes, is_constant, is_declared, next_place, place_of, read_byte, read_scalar, write_byte, write_scalar, address_in_memory, address_of_list, based_place, computed, Outside, Outcome, Gave, Stop, Stopped, then_do, function_of, values_of, Number, ModulePlacement, Event, byte_kept, byte_put, SourceFits, two_bytes_fit}
+use Rattle.task_laws.proofs.Prelude.{◌≡◌, ◌≢◌, ◌⊎◌, inl, inr, ℕ, ◌+◌, ◌*◌, ◌/◌, ◌%◌, ◌<◌, ◌≤◌, Bool, true, false, List, [], length, All, option_map, Option, Some, None, slice_get, slice_index_or, slice_set, if◌then◌else◌, refl, subst, arith, option_map_or, All-get_or, All-nil, All-set, get_or_past, length-set, cases_lt, cases_eq, MEMORY_SIZE, byte_at, input_value, queue_of, reads_of, IsScript, ScalarType, Byte, Address, type_of_target, InData, InConstants, Placed, BasedOn, Elsewhere, Nowhere, InFrame, TypedModule, TypedTarget, StoredIn, SentTo, TypesHoldInTarget, Within, Reason, Constant, InMemory, InTheFrame, Surroundings, frame_bytes, is_constant, is_declared, next_place, place_of, read_byte, read_scalar, write_byte, write_scalar, address_in_memory, address_of_list, based_place, computed, Outside, Outcome, Gave, Stop, Stopped, then_do, values_of, Number, ModulePlacement, Event, byte_kept, byte_put, SourceFits, two_bytes_fit}
 use Rattle.typed_trees.specs.TypedTrees.{Home}
 use Rattle.meaning.specs.{Access.{Place}, Outcomes.{State}}
-use Rattle.task_laws.proofs.Machine.KnownOperands.{KnownFits, high_fits, word_fits}
+use Rattle.task_laws.proofs.Machine.KnownOperands.{KnownFits, high_fits}
 
 -- the value of an outcome, if it gives one
 pub data Gives {A : Type 0} (Holds : A → State → Type 0) : Outcome A → Type 0 where
@@ -178,12 +178,6 @@ module _ (around : Surroundings) where
 pub address_fits : (place : Place) → PlaceFits place → address_in_memory place < 65536
 address_fits (InMemory address) fits = fits
 address_fits (InTheFrame object offset is_inside) fits = omega arith
-
-pub function_fits : (function : UnaryFunction) (of : ScalarType) (n : ℕ) → n < values_of of
-    → function_of function n < values_of (type_of_function function)
-function_fits Low of n small = omega arith
-function_fits High of n small = high_fits n of small
-function_fits Double of n small = word_fits n of small
 
 pub list_fits : (around : Surroundings) (list : ℕ) → address_of_list around list < 65536
 list_fits around list = by (slice_get around.program.placement.modules around.number_of_module)

@@ -1,9 +1,10 @@
 -- Values of typed expressions are of their types, provided that calls give such values: for the trees of any
 -- module of a program.
 use Rattle.task_laws.proofs.Prelude.{◌≡◌, ℕ, ◌+◌, ◌<◌, ◌&&◌, List, [], ◌∷◌, IsSomeAnd, Option, Some, None, slice_get, refl, sym, subst, arith, ScalarType, Byte, Address, type_of, type_of_result, type_of_target, TypedExpression, NumberNode, ValueNode, LocationNode, ListNode, ConversionNode, AssignmentNode, UnaryNode, BinaryNode, CallNode, FunctionNode, ShiftNode, InputNode, TypedReference, PartOf, Subscript, NoSubscript, At, TypedTarget, StoredIn, SentTo, TypedArguments, NoArguments, MoreArguments, TypedModule, TypedProcedure, TypedList, TypedStatements, TypesHold, TypesHoldInArguments, TypesHoldInHead, TypesHoldInList, TypesHoldInReference, TypesHoldInStatements, TypesHoldInSubscript, TypesHoldInTarget, TypesHoldInTargets, Takes, Within, WithinMain, WithinProcedure, types_of, InProgram, IsScript, Surroundings, home_of, read_scalar, write_scalar, IterateTurn, Later, Turn, WhileTurn, address_in_memory, based_place, called_for, callee_in, computed, displaced, displacement, located, procedure_at, stored, stored_in_each, value, values, Flow, Gave, Jumped, Onward, Returned, then_do, as_type, function_of, result_of, result_of_one, shifted, values_of, AreOfTypes, IsOfResult, SourceFits, NumbersFit, NumbersFitInArguments, NumbersFitInHead, NumbersFitInList, NumbersFitInReference, NumbersFitInStatements, NumbersFitInSubscript, NumbersFitInTarget, NumbersFitInTargets, HasTypes, as_type_fits}
+use Rattle.meaning.proofs.FunctionResults.{function_fits}
 use Rattle.meaning.specs.Outcomes.{State}
 use Rattle.task_laws.proofs.Machine.KnownOperands.{number_fits, one_fits, result_fits, shift_fits}
-use Rattle.task_laws.proofs.Ranges.RangesOfBytes.{Gives, IsGiven, PlaceFits, address_fits, computed_fits, function_fits, gives_then, input_fits, list_fits, of_type, place_fits, scalar_fits, target_type, write_fits}
+use Rattle.task_laws.proofs.Ranges.RangesOfBytes.{Gives, IsGiven, PlaceFits, address_fits, computed_fits, gives_then, input_fits, list_fits, of_type, place_fits, scalar_fits, target_type, write_fits}
 
 -- a value that a body returns is one of its result
 abbrev pub ReturnFits : Within → (found : ℕ) → Type 0

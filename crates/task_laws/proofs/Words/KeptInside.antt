@@ -1,5 +1,7 @@
--- The registers that the code of a conversion or of DOUBLE keeps are kept by the code of its operand.
-use Rattle.task_laws.proofs.Prelude.{◌≡◌, true, Option, Some, None, refl, sym, subst, option_map_or, false≢true, Byte, Low, High, Double, ExpressionForm, Place, Reference, Keeps, Nodes, form_at, keeps_none, keeps_of, keeps_of_byte, keeps_of_form, memory_of_inner, same_low_byte}
+-- The registers that the code of a conversion to ADDRESS, or of a function that gives one, keeps are kept by the code of
+-- its operand.
+use Rattle.task_laws.proofs.Prelude.{◌≡◌, true, Option, Some, None, refl, sym, subst, option_map_or, false≢true, Byte, ExpressionForm, Place, Reference, Keeps, Nodes, form_at, keeps_none, keeps_of, keeps_of_byte, keeps_of_form, memory_of_inner, same_low_byte, inl, inr}
+use Rattle.treecode.proofs.TakenBytes.{low_byte_of_itself, not_in_memory, taken}
 use Rattle.treecode.specs.declared.expression.ExpressionForm.TheVariants as forms
 use Rattle.treecode.specs.internal.Traits.{keeps_of_address}
 
@@ -30,9 +32,20 @@ same_twice nodes (forms.Assignment target value) = kept_nothing _
 same_twice nodes (forms.Unary operator operand) = kept_nothing _
 same_twice nodes (forms.Binary operands operator left right) = kept_nothing _
 same_twice nodes (forms.Call procedure given) = kept_nothing _
-same_twice nodes (forms.Function Low operand) = kept_nothing _
-same_twice nodes (forms.Function High operand) = kept_same _
-same_twice nodes (forms.Function Double operand) = kept_nothing _
+same_twice nodes (forms.Function function operand) =
+    elim (taken function) [
+      | inl low ↦
+          subst
+          (λ (found : Option Reference). IsKeptBy (in_memory nodes found)
+          (in_memory nodes (memory_of_inner nodes (same_low_byte nodes (forms.Function function operand)))))
+          (sym (not_in_memory nodes function operand low)) (kept_nothing _)
+      | inr high ↦
+          subst
+          (λ (form : ExpressionForm).
+          IsKeptBy (in_memory nodes (memory_of_inner nodes (forms.Function function operand)))
+          (in_memory nodes (memory_of_inner nodes form)))
+          (sym (low_byte_of_itself nodes function operand high)) (kept_same _)
+    ]
 same_twice nodes (forms.Shift function value count) = kept_nothing _
 same_twice nodes (forms.Input port) = kept_nothing _
 
@@ -49,11 +62,8 @@ inside_kept nodes (forms.Assignment target value) = kept_nothing _
 inside_kept nodes (forms.Unary operator operand) = kept_nothing _
 inside_kept nodes (forms.Binary operands operator left right) = kept_nothing _
 inside_kept nodes (forms.Call procedure given) = kept_nothing _
-inside_kept nodes (forms.Function Low operand) =
-    same_twice nodes (form_at nodes operand (forms.Function Low operand))
-inside_kept nodes (forms.Function High operand) = kept_same _
-inside_kept nodes (forms.Function Double operand) =
-    same_twice nodes (form_at nodes operand (forms.Function Double operand))
+inside_kept nodes (forms.Function function operand) =
+    same_twice nodes (same_low_byte nodes (forms.Function function operand))
 inside_kept nodes (forms.Shift function value count) = kept_nothing _
 inside_kept nodes (forms.Input port) = kept_nothing _
 

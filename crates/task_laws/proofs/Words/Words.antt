@@ -1,5 +1,8 @@
 -- The code of values in HL does what the expressions mean.
-use Rattle.task_laws.proofs.Prelude.{◌≡◌, ℕ, ◌+◌, ◌-◌, ◌*◌, ◌/◌, ◌%◌, ◌^◌, ◌<◌, ◌≤◌, ◌==◌, max, Bool, true, false, if◌then◌else◌, bit_and, is_some, [], ◌∷◌, ◌++◌, Option, Some, None, refl, sym, ap, ◌∙◌, subst, arith, append_assoc, ScalarType, Address, Byte, BinaryOperator, ShiftFunction, RotateLeft, RotateRight, ShiftLeft, ShiftRight, Low, High, Double, height_of, type_of, type_of_result, BinaryNode, ConversionNode, FunctionNode, ShiftNode, TypedExpression, TypesHold, value, SourceState, Outcome, Gave, Stopped, then_do, as_type, shifted, Xchg, State, Expression, ExpressionForm, ExpressionNumber, Static, Place, Number, Reference, IsExpression, IsForm, IsNumber, IsValue, IsLocation, IsConstantList, IsConversion, IsEmbedded, IsUnary, IsBinary, IsCallOf, IsFunction, IsShift, IsInput, keeps_none, keeps_of_form, keeps_of, keeps_of_extended, memory_of_form, keeps_of_shift, same_low_byte, traits_at, known_of, no_traits, number_at, traits_of, Traits, option_map_or, expression, Does, loaded_of, at_place, Arrives, place_at, Facts, CallRoutine, Plain, extension_steps, part_of, Site, keeps, known, memory_of, number_of, power, location_address_steps, extended_byte_in_memory_steps, pair_steps, knowing, number_of_two, division_steps, logic_with_number_steps, quotient_steps, remainder_steps, word_binary_steps, computed_count_steps, word_by_number_steps, word_shift_steps, word_shifted_right_steps, computed_word_steps, extended_byte_steps, word_form_steps, word_function_steps, word_of_two_steps, word_steps, Context, IsSound, nodes_in, StepsStand, PartThere, PartDoes, WordDoes, WordIsGiven, Keeps, Nodes, pow-le-pow_right, eqb-false, ne_eqb, and_mask, option_and_then, computed, result_of, power_of_two, same_Some}
+use Rattle.task_laws.proofs.Prelude.{◌≡◌, ℕ, ◌+◌, ◌-◌, ◌*◌, ◌/◌, ◌%◌, ◌^◌, ◌<◌, ◌≤◌, ◌==◌, max, Bool, true, false, if◌then◌else◌, bit_and, is_some, [], ◌∷◌, ◌++◌, Option, Some, None, refl, sym, ap, ◌∙◌, subst, arith, append_assoc, ScalarType, Address, Byte, BinaryOperator, ShiftFunction, RotateLeft, RotateRight, ShiftLeft, ShiftRight, height_of, type_of, type_of_result, BinaryNode, ConversionNode, FunctionNode, ShiftNode, TypedExpression, TypesHold, value, SourceState, Outcome, Gave, Stopped, then_do, as_type, shifted, Xchg, State, Expression, ExpressionForm, ExpressionNumber, Static, Place, Number, Reference, IsExpression, IsForm, IsNumber, IsValue, IsLocation, IsConstantList, IsConversion, IsEmbedded, IsUnary, IsBinary, IsCallOf, IsFunction, IsShift, IsInput, keeps_none, keeps_of_form, keeps_of, keeps_of_extended, memory_of_form, keeps_of_shift, same_low_byte, traits_at, known_of, no_traits, number_at, traits_of, Traits, option_map_or, expression, Does, loaded_of, at_place, Arrives, place_at, Facts, CallRoutine, Plain, extension_steps, part_of, Site, keeps, known, memory_of, number_of, power, location_address_steps, extended_byte_in_memory_steps, pair_steps, knowing, number_of_two, division_steps, logic_with_number_steps, quotient_steps, remainder_steps, word_binary_steps, computed_count_steps, word_by_number_steps, word_shift_steps, word_shifted_right_steps, computed_word_steps, extended_byte_steps, word_form_steps, word_of_two_steps, word_steps, Context, IsSound, nodes_in, StepsStand, PartThere, PartDoes, WordDoes, WordIsGiven, Keeps, Nodes, pow-le-pow_right, eqb-false, ne_eqb, and_mask, option_and_then, computed, result_of, power_of_two, same_Some, UnaryFunction, LowByte, byte_taken, type_of_function, function_of}
+use Rattle.trees.proofs.TakenBytes.{address_takes_low}
+use Rattle.meaning.proofs.FunctionResults.{operand_given}
+use Rattle.treecode.proofs.TakenBytes.{low_byte_of_operand}
 use Rattle.trees.specs.declared.expression.BinaryOperator.TheVariants as operators
 use Rattle.runtime8080.specs.declared.routine.Routine.TheVariants as routines
 use Rattle.treecode.specs.declared.expression.ExpressionForm.TheVariants as forms
@@ -414,7 +417,7 @@ module _ (context : Context) (sound : IsSound context) (asked : BytesAsked conte
           (higher_shift (height_of first) (height_of second) need height))
           given going
 
-  -- a node inside of a conversion or DOUBLE
+  -- a node inside of a conversion, or of a function that takes the low byte
   conversion_form :
       {bound : ℕ} (inner : ExpressionNumber) (tree : TypedExpression)
       (is : IsExpression (nodes_in context) context.storage bound inner.index tree)
@@ -425,14 +428,16 @@ module _ (context : Context) (sound : IsSound context) (asked : BytesAsked conte
       (forms.Conversion inner))
       (node_of {context = context} {number = inner} sound is).is_there
 
-  double_form :
-      {bound : ℕ} (inner : ExpressionNumber) (tree : TypedExpression)
-      (is : IsExpression (nodes_in context) context.storage bound inner.index tree)
-      → same_low_byte (nodes_in context) (forms.Function Double inner)
+  function_form :
+      {bound : ℕ} (function : UnaryFunction) (inner : ExpressionNumber) (tree : TypedExpression)
+      → byte_taken function ≡ LowByte
+      → (is : IsExpression (nodes_in context) context.storage bound inner.index tree)
+      → same_low_byte (nodes_in context) (forms.Function function inner)
       ≡ (node_of {context = context} {number = inner} sound is).found.form
-  double_form inner tree is =
-      ap (λ (found : Option Expression). option_map_or (λ (expression : Expression). expression.form) found
-      (forms.Function Double inner))
+  function_form function inner tree low is =
+      low_byte_of_operand (nodes_in context) function inner low
+      ∙ ap (λ (found : Option Expression). option_map_or (λ (expression : Expression). expression.form) found
+      (forms.Function function inner))
       (node_of {context = context} {number = inner} sound is).is_there
 
   -- the registers that its operand keeps
@@ -458,7 +463,7 @@ module _ (context : Context) (sound : IsSound context) (asked : BytesAsked conte
       (extended_kept (nodes_in context) outer node.found.form (type_of tree)
       (traits_at (nodes_in context) inner) traits_are same))
 
-  -- a conversion to ADDRESS, and DOUBLE
+  -- a conversion to ADDRESS, and a function that gives one
   conversion_carried :
       {facts last : Facts} {inner : ExpressionNumber} {tree : TypedExpression} {bound pushed from to : ℕ}
       (number : ExpressionNumber)
@@ -477,19 +482,22 @@ module _ (context : Context) (sound : IsSound context) (asked : BytesAsked conte
       (record { a = λ asked_for. given.a (kept.a asked_for); d = λ asked_for. given.d (kept.de asked_for); e = λ asked_for. given.e (kept.de asked_for) })
       going_on)
 
-  double_carried :
+  function_carried :
       {facts last : Facts} {inner : ExpressionNumber} {tree : TypedExpression} {bound pushed from to : ℕ}
-      (number : ExpressionNumber)
+      (function : UnaryFunction) (number : ExpressionNumber)
+      → type_of_function function ≡ Address
       → IsExpression (nodes_in context) context.storage bound inner.index tree
       → TypesHold context.typed context.within tree
       → IsKeptBy (keeps context.site number) (keeps context.site inner)
       → StepsStand context (PartDoes context) facts from (part_of (tasks.Word inner) pushed ∷ []) last to
-      → IsCarriedOut context facts number (FunctionNode Double tree) Address pushed from last to
-  double_carried {tree = tree} {from = from} number is types kept (PartThere part rest) =
+      → IsCarriedOut context facts number (FunctionNode function tree) Address pushed from last to
+  function_carried {tree = tree} {from = from} function number address is types kept (PartThere part rest) =
       λ top need base s r memory less room height going.
       word_then from s r memory part is types less room (higher_two (height_of tree) need height) going
       (λ n t now ended same fewer going_on given.
-      word_ends t rest (word_fits n (type_of tree) given.small) (record { h = given.h; l = given.l })
+      let operand : n ≡ function_of function n = sym (operand_given function address n) in
+      word_ends t rest (subst (λ m. m < 65536) operand (word_fits n (type_of tree) given.small))
+      (record { h = given.h ∙ ap (λ m. m / 256) operand; l = given.l ∙ ap (λ m. m % 256) operand })
       (record { a = λ asked_for. given.a (kept.a asked_for); d = λ asked_for. given.d (kept.de asked_for); e = λ asked_for. given.e (kept.de asked_for) })
       going_on)
 
@@ -511,7 +519,7 @@ module _ (context : Context) (sound : IsSound context) (asked : BytesAsked conte
       → StepsStand context (PartDoes context) facts from
       (word_form_steps (knowing context.site facts) form pushed) last to
       → IsCarriedOut context facts number tree Address pushed from last to
-  unfolding word_form_steps word_function_steps
+  unfolding word_form_steps
   form_carried IsNumber types address unknown kept stand = never_known unknown
   form_carried IsConstantList types address unknown kept stand = never_known unknown
   form_carried (IsValue {scalar = Address} reference) types address unknown kept stand =
@@ -550,14 +558,13 @@ module _ (context : Context) (sound : IsSound context) (asked : BytesAsked conte
       (IsBinary one two) types address kept stand
   form_carried (IsBinary {operands = Byte} {operator = operator} one two) types address unknown kept stand =
       bytes_differ (operands_are_addresses operator Byte address)
-  form_carried {number = number} (IsFunction {function = Double} {operand = inner} {tree = tree} is) types
+  form_carried {number = number} (IsFunction {function = function} {operand = inner} {tree = tree} is) types
       address unknown kept stand =
       λ top need base s r memory less room height going.
-      double_carried number is types
-      (inside_keeps number inner (forms.Function Double inner) is kept (double_form inner tree is)) stand
+      function_carried function number address is types
+      (inside_keeps number inner (forms.Function function inner) is kept
+      (function_form function inner tree (address_takes_low function address) is)) stand
       top need base s r memory less room height going
-  form_carried (IsFunction {function = Low} is) types address unknown kept stand = bytes_differ address
-  form_carried (IsFunction {function = High} is) types address unknown kept stand = bytes_differ address
   form_carried (IsShift {scalar = Address} {function = function} moved by) types address unknown kept stand =
       shift_carried function (operand_of moved (types.1).0) (operand_of by (types.2).0)
       (IsShift moved by) types kept stand

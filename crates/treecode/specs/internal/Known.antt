@@ -6,7 +6,7 @@ use Rattle.trees.specs.declared.declaration.ScalarType.TheVariants.{Byte, Addres
 use Rattle.trees.specs.declared.expression.BinaryOperator.{BinaryOperator}
 use Rattle.trees.specs.declared.expression.BinaryOperator.TheVariants.{Add, Subtract}
 use Rattle.trees.specs.declared.functions.UnaryFunction.{UnaryFunction}
-use Rattle.trees.specs.declared.functions.UnaryFunction.TheVariants.{Double}
+use Rattle.trees.specs.Functions.{type_of_function}
 use Rattle.typed_trees.specs.TypedTrees.{TypedExpression, NumberNode, ValueNode, LocationNode, ListNode, ConversionNode, AssignmentNode, UnaryNode, BinaryNode, CallNode, FunctionNode, ShiftNode, InputNode, TypedReference, PartOf, Subscript, NoSubscript, At}
 use Rattle.layout.specs.declared.slot.Slot.{Slot}
 use Rattle.layout.specs.Storage.{Storage}
@@ -22,17 +22,21 @@ use Rattle.treecode.specs.internal.Nodes.{home_at}
 abbrev pub known_number : Option Place → Option ℕ
 known_number known = option_and_then number_of_place known
 
--- a known value converted to a type; the low byte of a relocatable address is not known
+-- a relocatable address converted to a type; its low byte is not known
+abbrev pub converted_address : ScalarType → Place → Option Place
+converted_address Address place = Some place
+converted_address Byte place = None
+
+-- a known value converted to a type
 abbrev pub converted_place : ScalarType → Place → Option Place
 converted_place scalar (Number number) = Some (Number (as_type scalar number))
-converted_place Address place = Some place
-converted_place Byte place = None
+converted_place scalar place = converted_address scalar place
 
--- the result of LOW, HIGH or DOUBLE on a known value
+-- the result of a function of one known value; an ADDRESS that it gives is that value, and bytes of a relocatable address
+-- are not known
 abbrev pub function_of_place : UnaryFunction → Place → Option Place
 function_of_place function (Number number) = Some (Number (function_of function number))
-function_of_place Double place = Some place
-function_of_place function place = None
+function_of_place function place = converted_address (type_of_function function) place
 
 -- the result of an operator on two known ADDRESS values that are not both numbers
 abbrev pub result_of_place : BinaryOperator → (left right : Place) → Option Place

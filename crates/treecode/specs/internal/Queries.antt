@@ -2,7 +2,7 @@
 use Rattle.std.specs.Prelude.{ℕ, Option, slice_get}
 use Rattle.std.specs.Option.{option_map_or}
 use Rattle.trees.specs.declared.declaration.ScalarType.{ScalarType}
-use Rattle.trees.specs.declared.functions.UnaryFunction.TheVariants.{Low, Double}
+use Rattle.trees.specs.internal.Functions.{byte_taken, for_byte}
 use Rattle.treecode.specs.declared.place.Place.{Place}
 use Rattle.treecode.specs.declared.place.Home.{Home}
 use Rattle.treecode.specs.declared.lists.Range.{Range}
@@ -34,11 +34,11 @@ home tree object = home_at tree.homes.items object
 abbrev pub tree_expression : TreeModule → ExpressionNumber → Option Expression
 tree_expression tree number = slice_get tree.expressions.items number.index
 
--- the expression inside LOW, DOUBLE or a conversion, which has the same low byte; else the expression itself
+-- the operand of a conversion, or of a function that takes its low byte, which has the same low byte; else the
+-- expression itself
 abbrev pub inside : ExpressionNumber → ExpressionForm → ExpressionNumber
 inside number (Conversion inner) = inner
-inside number (Function Low operand) = operand
-inside number (Function Double operand) = operand
+inside number (Function function operand) = for_byte (byte_taken function) operand number
 inside number form = number
 
 abbrev pub low_byte_at : TreeModule → ExpressionNumber → ExpressionNumber

@@ -7,7 +7,7 @@ use Rattle.trees.specs.declared.expression.BinaryOperator.{BinaryOperator}
 use Rattle.trees.specs.declared.expression.BinaryOperator.TheVariants as operators
 use Rattle.typed_trees.specs.declared.parts.ShiftFunction.{ShiftFunction}
 use Rattle.typed_trees.specs.declared.parts.ShiftFunction.TheVariants.{ShiftLeft, ShiftRight}
-use Rattle.trees.specs.declared.functions.UnaryFunction.TheVariants.{Low, High, Double}
+use Rattle.trees.specs.internal.Functions.{byte_taken, for_byte}
 use Rattle.meaning.specs.Values.{result_of_one, shifted}
 use Rattle.treecode.specs.declared.expression.Expression.{Expression}
 use Rattle.treecode.specs.declared.expression.ExpressionForm.{ExpressionForm}
@@ -202,11 +202,13 @@ form_at nodes number form =
     option_map_or (λ (expression : Expression). expression.form) (slice_get nodes.expressions number.index)
     form
 
--- the form inside LOW, DOUBLE or a conversion, which has the same low byte; else the form itself
+-- the form of the operand of a conversion, or of a function that takes its low byte, which has the same low byte; else
+-- the form itself
 abbrev pub same_low_byte : Nodes → ExpressionForm → ExpressionForm
 same_low_byte nodes (forms.Conversion inner) = form_at nodes inner (forms.Conversion inner)
-same_low_byte nodes (forms.Function Low operand) = form_at nodes operand (forms.Function Low operand)
-same_low_byte nodes (forms.Function Double operand) = form_at nodes operand (forms.Function Double operand)
+same_low_byte nodes (forms.Function function operand) =
+    for_byte (byte_taken function) (form_at nodes operand (forms.Function function operand))
+    (forms.Function function operand)
 same_low_byte nodes form = form
 
 -- the second byte of an ADDRESS in memory
@@ -223,7 +225,8 @@ high_in_memory nodes operand =
 
 abbrev pub memory_of_inner : Nodes → ExpressionForm → Option Reference
 memory_of_inner nodes (forms.Value reference) = Some reference
-memory_of_inner nodes (forms.Function High operand) = high_in_memory nodes operand
+memory_of_inner nodes (forms.Function function operand) =
+    for_byte (byte_taken function) None (high_in_memory nodes operand)
 memory_of_inner nodes form = None
 
 -- the part of memory that holds the low byte of an expression, if any
@@ -263,8 +266,8 @@ is_free_form nodes scalar (forms.Conversion inner) = free_at nodes inner
 is_free_form nodes scalar (forms.Unary operator operand) = free_at nodes operand
 is_free_form nodes scalar (forms.Binary operands operator left right) =
     has_immediate operator && is_free_with nodes left right
-is_free_form nodes scalar (forms.Function High operand) = is_direct nodes (forms.Function High operand)
-is_free_form nodes scalar (forms.Function function operand) = free_at nodes operand
+is_free_form nodes scalar (forms.Function function operand) =
+    for_byte (byte_taken function) (free_at nodes operand) (is_direct nodes (forms.Function function operand))
 is_free_form nodes scalar (forms.Shift function value count) =
     is_of_low_byte scalar function && is_free_with nodes value count
 is_free_form nodes scalar (forms.Input port) = true
