@@ -1,18 +1,8 @@
 -- The low byte of the result of a function of one value, in tree code, by the byte that the function takes.
-use Rattle.treecode.proofs.Prelude.{◌≡◌, ◌⊎◌, ◌∙◌, None, inl, inr, refl, ap, ScalarType, UnaryFunction, LowByte, HighByte, byte_taken, for_byte, ExpressionForm, ExpressionNumber, Nodes, form_at, high_in_memory, is_direct, is_free_form, memory_of_form, memory_of_inner, same_low_byte}
+use Rattle.treecode.proofs.Prelude.{◌≡◌, ◌∙◌, None, ap, ScalarType, UnaryFunction, LowByte, HighByte, byte_taken, for_byte, ExpressionForm, ExpressionNumber, Nodes, form_at, high_in_memory, is_direct, is_free_form, memory_of_form, memory_of_inner, same_low_byte}
 use Rattle.trees.specs.declared.functions.ByteOfValue.{ByteOfValue}
 use Rattle.treecode.specs.internal.Traits.{free_at}
 use Rattle.treecode.specs.declared.expression.ExpressionForm.TheVariants as forms
-
--- a function takes one of two bytes
-pub taken : (function : UnaryFunction)
-    → (byte_taken function ≡ LowByte) ⊎ (byte_taken function ≡ HighByte)
-taken function = by (byte_taken function) refl
-  where
-    by : (byte : ByteOfValue) → byte_taken function ≡ byte
-        → (byte_taken function ≡ LowByte) ⊎ (byte_taken function ≡ HighByte)
-    by LowByte is = inl is
-    by HighByte is = inr is
 
 -- the low byte of a function that takes the low byte is that of its operand
 pub low_byte_of_operand : (nodes : Nodes) (function : UnaryFunction) (operand : ExpressionNumber)

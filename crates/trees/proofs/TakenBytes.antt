@@ -1,6 +1,5 @@
 -- The bytes of the results of the built-in functions of one value.
-use Rattle.std.specs.Prelude.{◌≡◌}
-use Rattle.std.proofs.Common.{refl}
+use Rattle.std.proofs.Common.{◌≡◌, ◌⊎◌, inl, inr, refl}
 use Rattle.trees.specs.declared.declaration.ScalarType.TheVariants.{Address, Byte}
 use Rattle.trees.specs.declared.functions.ByteOfValue.{ByteOfValue}
 use Rattle.trees.specs.declared.functions.ByteOfValue.TheVariants.{LowByte, HighByte}
@@ -8,6 +7,16 @@ use Rattle.trees.specs.declared.functions.UnaryFunction.{UnaryFunction}
 use Rattle.trees.specs.declared.functions.UnaryFunction.TheVariants.{Low, High, Double}
 use Rattle.trees.specs.Functions.{type_of_function}
 use Rattle.trees.specs.internal.Functions.{byte_taken, for_byte}
+
+-- a function takes one of two bytes
+pub taken : (function : UnaryFunction)
+    → (byte_taken function ≡ LowByte) ⊎ (byte_taken function ≡ HighByte)
+taken function = by (byte_taken function) refl
+  where
+    by : (byte : ByteOfValue) → byte_taken function ≡ byte
+        → (byte_taken function ≡ LowByte) ⊎ (byte_taken function ≡ HighByte)
+    by LowByte is = inl is
+    by HighByte is = inr is
 
 -- what holds of the one for each byte
 pub by_byte : {A : Type 0} (P : A → Type 0) (byte : ByteOfValue) (low high : A)

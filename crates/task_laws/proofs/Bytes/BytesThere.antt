@@ -1,9 +1,9 @@
 -- The low byte of a value in memory.
 use Rattle.task_laws.proofs.Prelude.{◌≡◌, ℕ, ◌*◌, ◌/◌, ◌%◌, ◌<◌, ◌≤◌, true, false, Option, Some, None, is_some, option_and_then, refl, sym, ap, ◌∙◌, subst, arith, false≢true, none-some, same_Some, option_map_or, ScalarType, Byte, Address, height_of, height_of_reference, type_of, FunctionNode, TypedExpression, TypedReference, ValueNode, RefersToScalar, TypesHold, TypesHoldInReference, read_scalar, SourceState, Outcome, Gave, then_do, as_type, values_of, Expression, ExpressionForm, ExpressionNumber, Home, Place, Reference, IndexNode, converted_place, function_of_place, place_of_part, IsExpression, IsReference, IsForm, IsNumber, IsValue, IsLocation, IsConstantList, IsConversion, IsEmbedded, IsUnary, IsBinary, IsCallOf, IsFunction, IsShift, IsInput, home_at, byte_after, distance_of, free_at, is_free_form, known_at, known_of, memory_of_form, memory_of_inner, no_traits, place_of_reference, same_low_byte, traits_of, Arrives, Does, loaded_of, at_place, Facts, Base, base_after, base_of, is_free, location_of, located_at, memory_of, reference_after, split, byte_in_memory_steps, knowing, Context, IsSound, nodes_in, StepsStand, ByteIsGiven, PartDoes, as_type_fits, inl, inr, UnaryFunction, HighByte, byte_taken, type_of_function, function_of}
 use Rattle.treecode.specs.internal.Traits.{high_in_memory}
-use Rattle.trees.proofs.TakenBytes.{by_byte}
+use Rattle.trees.proofs.TakenBytes.{by_byte, taken}
 use Rattle.meaning.proofs.FunctionResults.{high_byte_given, low_byte_kept, function_fits}
-use Rattle.treecode.proofs.TakenBytes.{free_if_direct, free_of_operand, low_byte_of_itself, low_byte_of_operand, memory_of_high, taken}
+use Rattle.treecode.proofs.TakenBytes.{free_if_direct, free_of_operand, low_byte_of_itself, low_byte_of_operand, memory_of_high}
 use Rattle.treecode.specs.declared.expression.ExpressionForm.TheVariants as forms
 use Rattle.treecode.specs.declared.place.Home.TheVariants as homes
 use Rattle.treecode.specs.declared.place.Location.TheVariants as locations

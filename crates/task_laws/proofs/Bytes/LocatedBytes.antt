@@ -1,8 +1,8 @@
 -- The low byte of an expression in memory: it is at the place of the part of an object that the tree names.
 use Rattle.task_laws.proofs.Prelude.{◌≡◌, ℕ, ◌*◌, ◌/◌, ◌%◌, ◌<◌, ◌≤◌, ◌⊎◌, inl, inr, List, Option, Some, refl, sym, ap, subst, ◌∙◌, arith, option_and_then, option_map_or, byte_at, ScalarType, Byte, Address, height_of, height_of_reference, type_of, ConversionNode, FunctionNode, PartOf, TypedExpression, TypedReference, ValueNode, RefersToScalar, TypesHold, TypesHoldInReference, next_place, place_in, read_scalar, SourceState, Outcome, Gave, Stop, Stopped, then_do, as_type, values_of, Registers, State, Expression, ExpressionForm, ExpressionNumber, Reference, IsBinary, IsCallOf, IsConstantList, IsConversion, IsEmbedded, IsExpression, IsForm, IsFunction, IsInput, IsLocation, IsNumber, IsReference, IsShift, IsUnary, IsValue, Does, Loaded, loaded_of, at_place, Arrives, IsReady, does_without_step, IsSteady, Facts, GoesOutside, memory, reference_after, knowing, Context, IsSound, nodes_in, AddressIsGiven, IsReferred, address_on_machine, as_type_fits, same_Some, same_both, UnaryFunction, LowByte, HighByte, byte_taken, type_of_function, function_of, None}
-use Rattle.trees.proofs.TakenBytes.{by_byte}
+use Rattle.trees.proofs.TakenBytes.{by_byte, taken}
 use Rattle.meaning.proofs.FunctionResults.{high_byte_given, low_byte_kept, function_fits}
-use Rattle.treecode.proofs.TakenBytes.{low_byte_of_itself, low_byte_of_operand, taken}
+use Rattle.treecode.proofs.TakenBytes.{low_byte_of_itself, low_byte_of_operand}
 use Rattle.meaning.specs.Access.{Place}
 use Rattle.treecode.specs.declared.expression.ExpressionForm.TheVariants as forms
 use Rattle.treecode.specs.internal.Traits as traits

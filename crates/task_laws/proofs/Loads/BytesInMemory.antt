@@ -1,6 +1,7 @@
 -- The byte in memory of an expression, at a site and according to its node.
 use Rattle.task_laws.proofs.Prelude.{◌≡◌, ℕ, Option, Some, None, slice_get, refl, sym, ap, ◌∙◌, option_map_or, option_and_then, ScalarType, Address, Byte, TypedExpression, Expression, ExpressionForm, ExpressionNumber, IsExpression, IsForm, IsNumber, IsValue, IsLocation, IsConstantList, IsConversion, IsEmbedded, IsUnary, IsBinary, IsCallOf, IsFunction, IsShift, IsInput, inside, Facts, form_in_memory, high_in_memory, high_of, memory, plain_in_memory, expression, knowing, Context, IsSound, nodes_in, inl, inr, ByteOfValue, byte_taken, for_byte, Reference}
-use Rattle.treecode.proofs.TakenBytes.{low_byte_of_itself, low_byte_of_operand, taken}
+use Rattle.trees.proofs.TakenBytes.{taken}
+use Rattle.treecode.proofs.TakenBytes.{low_byte_of_itself, low_byte_of_operand}
 use Rattle.treecode.specs.declared.expression.ExpressionForm.TheVariants as forms
 use Rattle.treecode.specs.internal.Traits as traits
 use Rattle.steps8080.specs.internal.Queries.{same_low_byte}

@@ -1,6 +1,7 @@
 -- The code for the effects of an expression of each form.
 use Rattle.task_laws.proofs.Prelude.{◌≡◌, ℕ, ◌+◌, ◌*◌, ◌<◌, ◌≤◌, ◌⊎◌, inl, inr, Bool, true, false, if◌then◌else◌, List, [], ◌∷◌, ◌++◌, Option, Some, None, refl, sym, ap, subst, ◌∙◌, arith, zero, suc, All, slice_get, slice_index_or, read_event, input_value, queue_of, ScalarType, height_of, TypedExpression, TypesHold, address_in_memory, computed, value, read_scalar, SourceState, Outcome, Gave, Stopped, then_do, as_type, function_of, result_of, result_of_one, shifted, In, after, Registers, State, Expression, ExpressionForm, ExpressionNumber, IsExpression, IsForm, IsNumber, IsValue, IsLocation, IsConstantList, IsConversion, IsEmbedded, IsUnary, IsBinary, IsCallOf, IsFunction, IsShift, IsInput, is_free, is_quiet, keeps, option_map_or, is_some, Site, expression, Keeps, nodes_of, free_at, has_immediate, is_free_form, is_free_with, is_of_low_byte, is_quiet_form, keeps_at, no_traits, number_at, quiet_at, quiet_computed, quiet_gave, quiet_scalar, Facts, Arrives, IsThere, Does, at_place, does_without_step, both_effects_steps, effects_steps, form_effects_steps, knowing, Context, IsSound, nodes_in, NoneThere, PartThere, PlainThere, StepsStand, ChangesAOnly, EffectsAreGiven, EffectsDo, Know, NothingIsGiven, PartDoes, false≢true, and_parts}
-use Rattle.treecode.proofs.TakenBytes.{free_if_direct, free_of_operand, taken}
+use Rattle.trees.proofs.TakenBytes.{taken}
+use Rattle.treecode.proofs.TakenBytes.{free_if_direct, free_of_operand}
 use Rattle.asm8080.specs.declared.item.Item.TheVariants as items
 use Rattle.treecode.specs.declared.expression.ExpressionForm.TheVariants as forms
 use Rattle.task_laws.proofs.Machine.FreeForms.{high_is_quiet, not_known, number_is_free, value_is_quiet}

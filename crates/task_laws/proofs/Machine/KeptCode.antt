@@ -1,7 +1,7 @@
 -- An expression with code that keeps A or DE is quiet, and so is a known one.
 use Rattle.task_laws.proofs.Prelude.{◌≡◌, ℕ, zero, suc, ◌%◌, ◌<◌, ◌≤◌, ◌&&◌, ◌⊎◌, inl, inr, Bool, true, false, not, ◌||◌, if◌then◌else◌, Option, Some, None, is_some, option_and_then, option_map, slice_get, refl, sym, ap, subst, ◌∙◌, arith, and_parts, ScalarType, Byte, Address, Xor, Less, Greater, LessOrEqual, GreaterOrEqual, Unequal, Multiply, Divide, Modulo, Subscript, TypedExpression, TypedReference, Storage, Expression, ExpressionForm, Home, Place, Reference, IndexNode, Keeps, Traits, place_of_part, IsExpression, IsNode, IsForm, IsNumber, IsValue, IsLocation, IsConstantList, IsConversion, IsEmbedded, IsUnary, IsBinary, IsCallOf, IsFunction, IsShift, IsInput, IsReference, IsPart, IsSubscript, IsAbsent, IsIndex, Nodes, home_at, option_map_or, ShiftLeft, ShiftRight, RotateLeft, RotateRight, ExpressionNumber, KeepTraits, byte_after, distance_of, form_at, is_quiet_form, is_static_location, keeps_at, keeps_of, keeps_none, keeps_of_byte, keeps_of_extended, keeps_of_form, keeps_of_index, keeps_of_part, keeps_of_shift, keeps_of_subscript, keeps_of_sum, known_at, known_of, memory_of_form, memory_of_inner, number_at, place_of_reference, quiet_at, reference_is_quiet, same_low_byte, subscript_is_quiet, traits_at, traits_of, node_traits, and_from, false≢true, from_number, from_value, none-some, byte_taken}
-use Rattle.trees.proofs.TakenBytes.{by_byte}
-use Rattle.treecode.proofs.TakenBytes.{low_byte_of_itself, low_byte_of_operand, taken}
+use Rattle.trees.proofs.TakenBytes.{by_byte, taken}
+use Rattle.treecode.proofs.TakenBytes.{low_byte_of_itself, low_byte_of_operand}
 use Rattle.trees.specs.declared.expression.BinaryOperator.TheVariants.{Or, And, Equal, Add, Subtract}
 use Rattle.treecode.specs.declared.expression.ExpressionForm.TheVariants as forms
 use Rattle.treecode.specs.declared.place.Home.TheVariants as homes

@@ -1,7 +1,8 @@
 -- The registers that the code of a conversion to ADDRESS, or of a function that gives one, keeps are kept by the code of
 -- its operand.
 use Rattle.task_laws.proofs.Prelude.{◌≡◌, true, Option, Some, None, refl, sym, subst, option_map_or, false≢true, Byte, ExpressionForm, Place, Reference, Keeps, Nodes, form_at, keeps_none, keeps_of, keeps_of_byte, keeps_of_form, memory_of_inner, same_low_byte, inl, inr}
-use Rattle.treecode.proofs.TakenBytes.{low_byte_of_itself, not_in_memory, taken}
+use Rattle.trees.proofs.TakenBytes.{taken}
+use Rattle.treecode.proofs.TakenBytes.{low_byte_of_itself, not_in_memory}
 use Rattle.treecode.specs.declared.expression.ExpressionForm.TheVariants as forms
 use Rattle.treecode.specs.internal.Traits.{keeps_of_address}
 
