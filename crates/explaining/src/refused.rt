@@ -12,7 +12,7 @@ use crate::naming::{Named, awaited_after, find_in_block, find_object};
 use crate::openers::{Opened, Opener, openers};
 use crate::origins::add_origins;
 use crate::page::{MARGIN, Page, Piece};
-use crate::spelling::{ends_string_in_word, is_after_nested};
+use crate::spelling::{ends_string_in_word, is_after_nested, refused_byte};
 use crate::told::Told;
 use host::Failure;
 use sources::{LONGEST_SOURCE, Place, ReadFault, read_source};
@@ -422,6 +422,23 @@ fn explain_spelling(page: &mut Page, refused: &Refused) {
         && let Some(hint) = hint_of_byte(*byte, begins_line(refused.text, place.start as usize))
     {
         page.sentence(&[Piece::Text(hint)]);
+        add_refused_byte(page, refused.text, place);
+    }
+}
+
+// Adds which byte of a comment or of a string may not stand in it.
+fn add_refused_byte(page: &mut Page, text: &[u8], place: Place) {
+    let start = place.start as usize;
+    if let Some(b'/' | b'\'') = text.get(start)
+        && let Some((byte, line)) = refused_byte(text, start, place.line)
+    {
+        page.sentence(&[
+            Piece::Text("The byte "),
+            Piece::Shown(&[byte]),
+            Piece::Text(" in line "),
+            Piece::Number(line),
+            Piece::Text(" is none of these"),
+        ]);
     }
 }
 

@@ -60,7 +60,8 @@ UnlessFault (Err (Fault fault)) P = Unit {0}
 UnlessFault (Err Memory) P = P
 
 module _ (wanted : ConvertWanted) (entries : List Entry) (parts : Parts) where
-  -- what was put together was made by these changes to this text, with these notes
+  -- This text is printed, and these notes are told. The table, if it is wanted, is that of this text, which these changes make of
+  -- what was put together.
   pub record IsMadeOf (changes : List Change) (text : List ℕ) (notes : List PlacedNote) (made : Conversion) : Type 0 where
     pub text_is : made.text.items ≡ text
     pub told_is : made.told.items ≡ note_lines wanted.file entries notes
@@ -115,7 +116,8 @@ module _ (advice : Advice) (wanted : ConvertWanted) (files : Option Directory) (
   IsRefusedAs before after refusal =
       RefusesInclude before after refusal ⊎ ((after ≡ before) × (RefusesLength refusal ⊎ RefusesSource refusal))
 
--- the text of a conversion was printed, and its notes were told, or not
+-- The text of a conversion was printed, and its notes, if there are any, were told, as far as standard error takes them. Or standard
+-- output did not take the whole text, and that was told.
 unfoldable pub PrintsTold : Conversion → (status : ℕ) → (err_old err_new out_old out_new : Option (List ℕ)) → Type 0
 PrintsTold made status err_old err_new out_old out_new =
     ((status ≡ 0) × (made.told.items ≡ []) × Appends out_old out_new made.text.items)
@@ -123,8 +125,8 @@ PrintsTold made status err_old err_new out_old out_new =
     × AppendsBeginning err_old err_new made.told.items)
     ⊎ ((status ≡ 1) × TellsUnwritten err_old err_new × AppendsBeginning out_old out_new made.text.items))
 
--- This was done once the table was written that is wanted. Or the file of the table could not be written, or memory ran out
--- by then.
+-- This was done once the table, if one is wanted, was written. Or its file could not be written, or memory ran out by then, and that
+-- was told, and nothing was printed.
 unfoldable pub PrintsTabled :
     ConvertWanted → Conversion → (files now : Option Directory)
     → (status before after : ℕ) → (err_old err_new out_old out_new : Option (List ℕ)) → Type 0
