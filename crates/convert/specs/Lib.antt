@@ -1,6 +1,7 @@
+pub mod Numbers
+pub mod Labels
 pub mod Classes
 pub mod Groups
-pub mod Numbers
 pub mod Matching
 pub mod Texts
 pub mod Lists

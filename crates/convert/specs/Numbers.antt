@@ -76,10 +76,11 @@ class_number classes.Number = 1
 class_number classes.FirstNumber = 2
 class_number classes.String = 3
 class_number classes.EndOfDo = 4
-class_number classes.Several = 5
-class_number classes.Constant = 6
-class_number (classes.Mark mark) = 7 + mark_number mark
-class_number (classes.Reserved word) = 24 + word_number word
+class_number classes.EndOfOther = 5
+class_number classes.Several = 6
+class_number classes.Constant = 7
+class_number (classes.Mark mark) = 8 + mark_number mark
+class_number (classes.Reserved word) = 25 + word_number word
 
 -- tests of a class
 abbrev pub is_name : Class → Bool

@@ -52,9 +52,11 @@ table_of_rules =
     ∷ record { parts = (parts.Is classes.FirstNumber) ∷ (parts.Is (classes.Mark marks.Colon)) ∷ []; action = Writes [] }
     ∷ record { parts = parts.EndOfText ∷ []; action = Writes [] }
     ∷ record { parts = (parts.Is (classes.Reserved words.Eof)) ∷ []; action = Tells (codes "EOF: delete it, and what follows if that is no part of the program, or write another name") }
+    ∷ record { parts = (parts.Is (classes.Mark marks.Colon)) ∷ (parts.Is classes.EndOfOther) ∷ (parts.Is classes.Name) ∷ []; action = Tells (codes "END NAME: no label NAME at the DO that it ends: an END may be missing before it, or delete NAME") }
     ∷ record { parts = (parts.Is (classes.Mark marks.Colon)) ∷ (parts.Is classes.EndOfDo) ∷ (parts.Is classes.Name) ∷ []; action = Writes ((PutsCopy 0) ∷ (PutsText (codes " ;")) ∷ (PutsAfter 0 1) ∷ []) }
     ∷ record { parts = (parts.Is (classes.Mark marks.Colon)) ∷ (parts.Is classes.EndOfDo) ∷ []; action = Writes ((PutsCopy 0) ∷ (PutsText (codes " ;")) ∷ (PutsAfter 0 1) ∷ []) }
     ∷ record { parts = (parts.Is (classes.Mark marks.Colon)) ∷ (parts.Is (classes.Reserved words.End)) ∷ []; action = Writes ((PutsCopy 0) ∷ (PutsText (codes " ;")) ∷ (PutsAfter 0 1) ∷ []) }
+    ∷ record { parts = (parts.Is classes.EndOfOther) ∷ (parts.Is classes.Name) ∷ []; action = Tells (codes "END NAME: no label NAME at the DO that it ends: an END may be missing before it, or delete NAME") }
     ∷ record { parts = (parts.Is classes.EndOfDo) ∷ (parts.Is classes.Name) ∷ []; action = Writes ((PutsCopy 0) ∷ []) }
     ∷ record { parts = (parts.Is (classes.Mark marks.Period)) ∷ (parts.Is classes.String) ∷ []; action = Writes ((PutsText (codes ".(")) ∷ (PutsCopy 1) ∷ (PutsText (codes ")")) ∷ []) }
     ∷ record { parts = (parts.Is (classes.Mark marks.Period)) ∷ (parts.Is classes.Number) ∷ []; action = Writes ((PutsText (codes ".(")) ∷ (PutsCopy 1) ∷ (PutsText (codes ")")) ∷ []) }

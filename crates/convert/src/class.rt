@@ -1,8 +1,10 @@
 //! What words are to the rules.
 
 ghost use Rattle.std.specs.Prelude.{◌≡◌, ◌≤◌, ◌+◌, true, [], ◌∷◌, ◌++◌, length, IfOk};
-ghost use Rattle.convert.specs.Classes.{seen, seen_in, class_here, count_at, class_of, is_value, class_at_end, is_inner, closed, opened};
+ghost use Rattle.convert.specs.Classes.{seen, seen_in, class_here, count_at, class_of, is_value};
+ghost use Rattle.convert.specs.Classes.{class_at_end, class_of_end, closed, has_other_name, last_block, opened};
 
+use crate::labels::{front_words, is_label_of, is_name};
 use std::alloc::{AllocError, Global};
 use words::{Kind, Mark, ReservedWord, Word};
 
@@ -21,8 +23,10 @@ pub enum Class {
     String,
     /// A mark.
     Mark(Mark),
-    /// The END of a DO that is in a block.
+    /// The END of a DO that is in a block, with one of its labels or with no name.
     EndOfDo,
+    /// The END of a DO that is in a block, with a name that is no label of the DO.
+    EndOfOther,
     /// A name that LITERALLY defines as a number.
     Constant,
     /// A name that LITERALLY defines as no word, or as several.
@@ -34,6 +38,15 @@ pub enum Class {
 pub struct Seen<'a> {
     pub class: Class,
     pub word: Word<'a>,
+}
+
+/// A block that is open at a word of the source.
+#[derive(Clone, Copy)]
+pub struct Opened {
+    /// Whether it is a DO that is in a block.
+    pub inner: bool,
+    /// How many words stand before its DO or PROCEDURE.
+    pub place: usize,
 }
 
 /// The words of a source as the rules see them, from these words and from their expansion.
@@ -52,47 +65,50 @@ pub(crate) fn see<'a>(
     Ok(all)
 }
 
-// Adds the words of a source as the rules see them. No block is open.
+// Adds words as the rules see them, where these blocks are open.
 fn see_all<'a>(
     words: &[Word<'a>],
     expanded: &[Word<'a>],
-    blocks: &mut Vec<bool>,
+    blocks: &mut Vec<Opened>,
     all: &mut Vec<Seen<'a>>,
 ) -> Result<(), AllocError>
     requires { length expanded.now ≤ 4294967296 }
     ensures seen { IfOk result (λ _. all.new.items
-        ≡ all.old.items ++ seen_in blocks.old.items true words.now expanded.now) }
+        ≡ all.old.items ++ seen_in blocks.old.items all.old.items words.now expanded.now) }
     ensures count { IfOk result (λ _. length all.new.items ≡ length all.old.items + length words.now) }
 {
-    let mut first = true;
     let mut rest = expanded;
     let mut after = words;
     while let [word, more @ ..] = after {
         let count = count_at(word.start, rest);
-        see_word(word, &rest[..count], first, blocks, all)?;
-        first = false;
+        see_word(word, &rest[..count], more, &rest[count..], blocks, all)?;
         rest = &rest[count..];
         after = more;
     }
     Ok(())
 }
 
-// Adds a word, for which these words stand.
+// Adds a word, for which these words stand, before other words with their expansion.
 fn see_word<'a>(
     word: &Word<'a>,
     standing: &[Word<'a>],
-    first: bool,
-    blocks: &mut Vec<bool>,
+    words: &[Word<'a>],
+    expanded: &[Word<'a>],
+    blocks: &mut Vec<Opened>,
     all: &mut Vec<Seen<'a>>,
 ) -> Result<(), AllocError>
-    ensures seen { IfOk result (λ _. let class = class_here blocks.old.items first word.now standing.now in
+    ensures seen { IfOk result (λ _. let class = class_here
+        blocks.old.items all.old.items word.now standing.now words.now expanded.now in
         all.new.items ≡ all.old.items ++ record { class = class; word = word.now } ∷ []) }
-    ensures blocks { IfOk result (λ _. let class = class_here blocks.old.items first word.now standing.now in
-        blocks.new.items ≡ opened class (closed class blocks.old.items)) }
+    ensures blocks { IfOk result (λ _. let class = class_here
+        blocks.old.items all.old.items word.now standing.now words.now expanded.now in
+        blocks.new.items ≡ opened class (length all.old.items) (closed class blocks.old.items)) }
 {
-    let class = class_in_block(class_of(standing, word.kind, first), blocks.as_slice());
+    let before = all.as_slice();
+    let alone = class_of(standing, word.kind, before.is_empty());
+    let class = class_in_block(alone, blocks.as_slice(), before, words, expanded);
     close_block(class, blocks);
-    open_block(class, blocks)?;
+    open_block(class, all.len(), blocks)?;
     all.push(Seen { class, word: *word })?;
     Ok(())
 }
@@ -139,42 +155,93 @@ fn class_of(words: &[Word], kind: Kind, first: bool) -> Class
     }
 }
 
-// What a word is where these blocks are open: for each whether it is a DO in another block.
-fn class_in_block(class: Class, blocks: &[bool]) -> Class
-    ensures { result ≡ class_at_end class (is_inner blocks.now) }
+// What a word of a class is in these blocks, after these words and before others with their expansion.
+fn class_in_block(
+    class: Class,
+    blocks: &[Opened],
+    before: &[Seen],
+    words: &[Word],
+    expanded: &[Word],
+) -> Class
+    ensures { result
+        ≡ class_at_end class (class_of_end (last_block blocks.now) before.now words.now expanded.now) }
 {
     match class {
-        Class::Reserved(ReservedWord::End) if !blocks.is_empty() && blocks[blocks.len() - 1] => {
-            Class::EndOfDo
+        Class::Reserved(ReservedWord::End) => {
+            class_of_end(last_block(blocks), before, words, expanded)
         }
         other => other,
     }
 }
 
+// The last of the open blocks.
+fn last_block(blocks: &[Opened]) -> Opened
+    ensures { result ≡ last_block blocks.now }
+{
+    if blocks.is_empty() {
+        Opened {
+            inner: false,
+            place: 0,
+        }
+    } else {
+        blocks[blocks.len() - 1]
+    }
+}
+
+// What an END is that ends this block.
+fn class_of_end(block: Opened, before: &[Seen], words: &[Word], expanded: &[Word]) -> Class
+    ensures { result ≡ class_of_end block before.now words.now expanded.now }
+{
+    if !block.inner {
+        Class::Reserved(ReservedWord::End)
+    } else if has_other_name(front_words(before, block.place), words, expanded) {
+        Class::EndOfOther
+    } else {
+        Class::EndOfDo
+    }
+}
+
+// Whether words begin with a name that is no label at the end of the words before a DO.
+fn has_other_name(before: &[Seen], words: &[Word], expanded: &[Word]) -> bool
+    ensures { result ≡ has_other_name before.now words.now expanded.now }
+{
+    match words {
+        [word, ..] => {
+            let count = count_at(word.start, expanded);
+            is_name(class_of(&expanded[..count], word.kind, false))
+                && !is_label_of(before, word.text)
+        }
+        [] => false,
+    }
+}
+
 // Closes the last block at an END.
-fn close_block(class: Class, blocks: &mut Vec<bool>)
+fn close_block(class: Class, blocks: &mut Vec<Opened>)
     ensures { blocks.new.items ≡ closed class blocks.old.items }
 {
     match class {
-        Class::EndOfDo | Class::Reserved(ReservedWord::End) => {
+        Class::EndOfDo | Class::EndOfOther | Class::Reserved(ReservedWord::End) => {
             let _ = blocks.pop();
         }
         _ => {}
     }
 }
 
-// Opens a block at a DO or a PROCEDURE.
-fn open_block(class: Class, blocks: &mut Vec<bool>) -> Result<(), AllocError>
-    ensures { IfOk result (λ _. blocks.new.items ≡ opened class blocks.old.items) }
+// Opens a block at a DO or a PROCEDURE, with this many words before it.
+fn open_block(class: Class, place: usize, blocks: &mut Vec<Opened>) -> Result<(), AllocError>
+    ensures { IfOk result (λ _. blocks.new.items ≡ opened class place blocks.old.items) }
 {
     match class {
         Class::Reserved(ReservedWord::Do) => {
             let inner = !blocks.is_empty();
-            blocks.push(inner)?;
+            blocks.push(Opened { inner, place })?;
             Ok(())
         }
         Class::Reserved(ReservedWord::Procedure) => {
-            blocks.push(false)?;
+            blocks.push(Opened {
+                inner: false,
+                place,
+            })?;
             Ok(())
         }
         _ => Ok(()),

@@ -16,10 +16,11 @@ pub(crate) fn class_number(class: Class) -> u8
         Class::FirstNumber => 2,
         Class::String => 3,
         Class::EndOfDo => 4,
-        Class::Several => 5,
-        Class::Constant => 6,
-        Class::Mark(mark) => 7 + mark_number(mark),
-        Class::Reserved(word) => 24 + word_number(word),
+        Class::EndOfOther => 5,
+        Class::Several => 6,
+        Class::Constant => 7,
+        Class::Mark(mark) => 8 + mark_number(mark),
+        Class::Reserved(word) => 25 + word_number(word),
     }
 }
 

@@ -42,7 +42,7 @@ const NAME: Part = Part::Is(Class::Name);
 const SPACE: Put = Put::Text(b" ");
 
 /// The rules.
-pub static RULES: [Rule; 63] = [
+pub static RULES: [Rule; 65] = [
     // words
     Rule {
         parts: &[
@@ -66,6 +66,12 @@ pub static RULES: [Rule; 63] = [
         ),
     },
     Rule {
+        parts: &[COLON, Part::Is(Class::EndOfOther), NAME],
+        action: Action::Tell(
+            "END NAME: no label NAME at the DO that it ends: an END may be missing before it, or delete NAME",
+        ),
+    },
+    Rule {
         parts: &[COLON, Part::Is(Class::EndOfDo), NAME],
         action: Action::Write(&[Put::Copy(0), Put::Text(b" ;"), Put::After(0, 1)]),
     },
@@ -76,6 +82,12 @@ pub static RULES: [Rule; 63] = [
     Rule {
         parts: &[COLON, Part::Is(Class::Reserved(ReservedWord::End))],
         action: Action::Write(&[Put::Copy(0), Put::Text(b" ;"), Put::After(0, 1)]),
+    },
+    Rule {
+        parts: &[Part::Is(Class::EndOfOther), NAME],
+        action: Action::Tell(
+            "END NAME: no label NAME at the DO that it ends: an END may be missing before it, or delete NAME",
+        ),
     },
     Rule {
         parts: &[Part::Is(Class::EndOfDo), NAME],
