@@ -82,8 +82,8 @@ opened class place blocks = blocks
 abbrev pub class_here : List Opened → List Seen → Word → List Word → List Word → List Word → Class
 class_here blocks before word standing words expanded =
     class_at_end
-        (class_of standing word.kind (length before == 0))
-        (class_of_end (last_block blocks) before words expanded)
+    (class_of standing word.kind (length before == 0))
+    (class_of_end (last_block blocks) before words expanded)
 
 -- Words as the rules see them, where these blocks are open, after words that they see so. Of the expansion those with
 -- the start of a word stand for it.
@@ -93,7 +93,7 @@ seen_in blocks before (word ∷ words) expanded =
     let count = count_at word.start expanded in
     let class = class_here blocks before word (take count expanded) words (drop count expanded) in
     let after = opened class (length before) (closed class blocks) in
-    let here = record { class = class; word = word } in
+    let here : Seen = record { class = class; word = word } in
     here ∷ seen_in after (before ++ here ∷ []) words (drop count expanded)
 
 -- the words of a source as the rules see them

@@ -12,11 +12,11 @@ abbrev pub is_colon : Class → Bool
 is_colon (classes.Mark Colon) = true
 is_colon class = false
 
--- whether a word of the source, of which this is the text, is this name
+-- whether a word with this text is this name
 abbrev pub is_text_of : List ℕ → List ℕ → Bool
 is_text_of name text = is_valid_name (name_of text) && bytes_eq (name_of text) name
 
--- Whether a name is one of the labels at the end of words, which are here from last to first.
+-- whether a name is one of the labels at the end of words, which are given from last to first
 abbrev pub has_label : List ℕ → List Seen → Bool
 has_label name [] = false
 has_label name (word ∷ []) = false
@@ -24,6 +24,6 @@ has_label name (colon ∷ label ∷ words) =
     is_colon colon.class && is_name label.class
     && (is_text_of name label.word.text.now || has_label name words)
 
--- whether a word of the source, of which this is the text, is one of the labels at the end of words
+-- whether a word with this text is one of the labels at the end of words
 abbrev pub is_label_of : List Seen → List ℕ → Bool
 is_label_of words text = is_valid_name (name_of text) && has_label (name_of text) (reverse words)

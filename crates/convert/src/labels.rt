@@ -20,7 +20,7 @@ pub(crate) fn front_words<'s, 'a>(words: &'s [Seen<'a>], count: usize) -> &'s [S
     }
 }
 
-/// Whether a word of the source, of which this is the text, is one of the labels at the end of words.
+/// Whether a word with this text is one of the labels at the end of words. `$` does not count, and letters are of either case.
 pub(crate) fn is_label_of(words: &[Seen], text: &[u8]) -> bool
     ensures { result ≡ is_label_of words.now text.now }
 {
@@ -47,7 +47,7 @@ fn has_label(name: Name, words: &[Seen]) -> bool
     false
 }
 
-// Whether a word of the source, of which this is the text, is this name.
+// Whether a word with this text is this name.
 fn is_text_of(name: Name, text: &[u8]) -> bool
     ensures { result ≡ is_text_of name text.now }
 {
