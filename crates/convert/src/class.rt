@@ -1,6 +1,6 @@
 //! What words are to the rules.
 
-ghost use Rattle.std.specs.Prelude.{◌≡◌, ◌≤◌, ◌+◌, true, [], ◌∷◌, ◌++◌, length, IfOk};
+ghost use Rattle.std.specs.Prelude.{◌≡◌, ◌≤◌, ◌+◌, [], ◌∷◌, ◌++◌, length, IfOk};
 ghost use Rattle.convert.specs.Classes.{seen, seen_in, class_here, count_at, class_of, is_value};
 ghost use Rattle.convert.specs.Classes.{class_at_end, class_of_end, closed, has_other_name, last_block, opened};
 
@@ -23,7 +23,7 @@ pub enum Class {
     String,
     /// A mark.
     Mark(Mark),
-    /// The END of a DO that is in a block, with one of its labels or with no name.
+    /// The END of a DO that is in a block, with one of its labels or without a name.
     EndOfDo,
     /// The END of a DO that is in a block, with a name that is no label of the DO.
     EndOfOther,
