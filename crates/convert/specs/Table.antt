@@ -48,7 +48,11 @@ rule_view rule = record { parts = rule.parts.now; action = action_view rule.acti
 -- the rules, in their order
 abbrev pub table_of_rules : List RuleView
 table_of_rules =
-    record { parts = (parts.Is (classes.Reserved words.Go)) ∷ (parts.Is (classes.Reserved words.To)) ∷ []; action = Writes ((PutsText (codes "GOTO")) ∷ []) }
+    record { parts = (parts.Is (classes.Reserved words.Go)) ∷ (parts.Is (classes.Reserved words.To)) ∷ (parts.Is classes.Number) ∷ []; action = Tells (codes "GOTO an address: in MON1 and MON2 delete it and write EXTERNAL in the heading; for 0 write CALL MON1(0, 0); else JUMP of examples/mixed") }
+    ∷ record { parts = (parts.Is (classes.Reserved words.Go)) ∷ (parts.Is (classes.Reserved words.To)) ∷ (parts.Is classes.Constant) ∷ []; action = Tells (codes "GOTO an address: in MON1 and MON2 delete it and write EXTERNAL in the heading; for 0 write CALL MON1(0, 0); else JUMP of examples/mixed") }
+    ∷ record { parts = (parts.Is (classes.Reserved words.Goto)) ∷ (parts.Is classes.Number) ∷ []; action = Tells (codes "GOTO an address: in MON1 and MON2 delete it and write EXTERNAL in the heading; for 0 write CALL MON1(0, 0); else JUMP of examples/mixed") }
+    ∷ record { parts = (parts.Is (classes.Reserved words.Goto)) ∷ (parts.Is classes.Constant) ∷ []; action = Tells (codes "GOTO an address: in MON1 and MON2 delete it and write EXTERNAL in the heading; for 0 write CALL MON1(0, 0); else JUMP of examples/mixed") }
+    ∷ record { parts = (parts.Is (classes.Reserved words.Go)) ∷ (parts.Is (classes.Reserved words.To)) ∷ []; action = Writes ((PutsText (codes "GOTO")) ∷ []) }
     ∷ record { parts = (parts.Is classes.FirstNumber) ∷ (parts.Is (classes.Mark marks.Colon)) ∷ []; action = Writes [] }
     ∷ record { parts = parts.EndOfText ∷ []; action = Writes [] }
     ∷ record { parts = (parts.Is (classes.Reserved words.Eof)) ∷ []; action = Tells (codes "EOF: delete it, and what follows if that is no part of the program, or write another name") }
@@ -111,6 +115,6 @@ table_of_rules =
     ∷ record { parts = (parts.Is (classes.Reserved words.Interrupt)) ∷ []; action = Tells (codes "INTERRUPT: poll a status port in a loop, or link an object that calls the procedure") }
     ∷ record { parts = (parts.Is (classes.Reserved words.Enable)) ∷ (parts.Is (classes.Mark marks.Semicolon)) ∷ []; action = Tells (codes "ENABLE: delete it, or CALL an object that has EI") }
     ∷ record { parts = (parts.Is (classes.Reserved words.Disable)) ∷ (parts.Is (classes.Mark marks.Semicolon)) ∷ []; action = Tells (codes "DISABLE: delete it, or CALL an object that has DI") }
-    ∷ record { parts = (parts.Is (classes.Reserved words.Plus)) ∷ []; action = Tells (codes "A PLUS B: write ADC(A, B) of examples/arithmetic, for the + of the byte before too, after CARRY = 0") }
-    ∷ record { parts = (parts.Is (classes.Reserved words.Minus)) ∷ []; action = Tells (codes "A MINUS B: write SBB(A, B) of examples/arithmetic, for the - of the byte before too, after CARRY = 0") }
+    ∷ record { parts = (parts.Is (classes.Reserved words.Plus)) ∷ []; action = Tells (codes "A PLUS B: write ADC(A, B) of examples/arithmetic, for the + of the byte before too, after CARRY = 0; in DEC( ) DEC$ADC(A, B)") }
+    ∷ record { parts = (parts.Is (classes.Reserved words.Minus)) ∷ []; action = Tells (codes "A MINUS B: write SBB(A, B) of examples/arithmetic, for the - of the byte before too, after CARRY = 0; in DEC( ) DEC$SBB(A, B)") }
     ∷ []

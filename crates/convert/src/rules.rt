@@ -42,8 +42,46 @@ const NAME: Part = Part::Is(Class::Name);
 const SPACE: Put = Put::Text(b" ");
 
 /// The rules.
-pub static RULES: [Rule; 65] = [
+pub static RULES: [Rule; 69] = [
     // words
+    Rule {
+        parts: &[
+            Part::Is(Class::Reserved(ReservedWord::Go)),
+            Part::Is(Class::Reserved(ReservedWord::To)),
+            Part::Is(Class::Number),
+        ],
+        action: Action::Tell(
+            "GOTO an address: in MON1 and MON2 delete it and write EXTERNAL in the heading; for 0 write CALL MON1(0, 0); else JUMP of examples/mixed",
+        ),
+    },
+    Rule {
+        parts: &[
+            Part::Is(Class::Reserved(ReservedWord::Go)),
+            Part::Is(Class::Reserved(ReservedWord::To)),
+            Part::Is(Class::Constant),
+        ],
+        action: Action::Tell(
+            "GOTO an address: in MON1 and MON2 delete it and write EXTERNAL in the heading; for 0 write CALL MON1(0, 0); else JUMP of examples/mixed",
+        ),
+    },
+    Rule {
+        parts: &[
+            Part::Is(Class::Reserved(ReservedWord::Goto)),
+            Part::Is(Class::Number),
+        ],
+        action: Action::Tell(
+            "GOTO an address: in MON1 and MON2 delete it and write EXTERNAL in the heading; for 0 write CALL MON1(0, 0); else JUMP of examples/mixed",
+        ),
+    },
+    Rule {
+        parts: &[
+            Part::Is(Class::Reserved(ReservedWord::Goto)),
+            Part::Is(Class::Constant),
+        ],
+        action: Action::Tell(
+            "GOTO an address: in MON1 and MON2 delete it and write EXTERNAL in the heading; for 0 write CALL MON1(0, 0); else JUMP of examples/mixed",
+        ),
+    },
     Rule {
         parts: &[
             Part::Is(Class::Reserved(ReservedWord::Go)),
@@ -392,13 +430,13 @@ pub static RULES: [Rule; 65] = [
     Rule {
         parts: &[Part::Is(Class::Reserved(ReservedWord::Plus))],
         action: Action::Tell(
-            "A PLUS B: write ADC(A, B) of examples/arithmetic, for the + of the byte before too, after CARRY = 0",
+            "A PLUS B: write ADC(A, B) of examples/arithmetic, for the + of the byte before too, after CARRY = 0; in DEC( ) DEC$ADC(A, B)",
         ),
     },
     Rule {
         parts: &[Part::Is(Class::Reserved(ReservedWord::Minus))],
         action: Action::Tell(
-            "A MINUS B: write SBB(A, B) of examples/arithmetic, for the - of the byte before too, after CARRY = 0",
+            "A MINUS B: write SBB(A, B) of examples/arithmetic, for the - of the byte before too, after CARRY = 0; in DEC( ) DEC$SBB(A, B)",
         ),
     },
 ];
