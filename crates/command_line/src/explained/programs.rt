@@ -1,7 +1,7 @@
 //! What is printed of the numbers of faults of the modules of a program together, of their places, and of files and options; and of the ends of runs. `tools/faults --write` makes it of docs/faults.md.
 
 /// The pages, with form feeds between them. Each begins with its number, on a line of its own.
-pub const PROGRAMS: [u8; 10953] = *b"\
+pub const PROGRAMS: [u8; 11143] = *b"\
 J1
 
 An EXTERNAL name that no module has as PUBLIC, used or not. \"Where\" is the name.
@@ -72,7 +72,9 @@ No module has statements, or more than one has. The one whose statements are the
 program is the main module; the others have only declarations and procedures,
 and no `;` on its own. Usually the main module was not named on the command
 line, or two programs were named at once. In old sources it is an extra `;`, for
-example after `END;`, in one of the other modules.
+example after `END;`, in one of the other modules. Or the program is a
+procedure, to which a jump led that was deleted: CALL it in the last line of the
+module.
 
 wrong.plm:
 
@@ -114,8 +116,9 @@ An external name that no object has as public. `main.obj` calls S:
     L2 S 0
 
 Cure: name the object that has S as well. If it is named, PUBLIC is missing in
-its source. All objects of a program are linked in one call; a merge has no
-external names.
+its source. Of system calls such as MON1 or OPEN it is one that
+`docs/old-sources.md` names. All objects of a program are linked in one call; a
+merge has no external names.
 \x0cL3
 
 The code, the data or the stack of all modules takes more than 65535 bytes. In

@@ -1,7 +1,7 @@
 //! What is printed of the numbers of faults of a source, and of its code. `tools/faults --write` makes it of docs/faults.md.
 
 /// The pages, with form feeds between them. Each begins with its number, on a line of its own.
-pub const SOURCES: [u8; 18159] = *b"\
+pub const SOURCES: [u8; 18458] = *b"\
 C1
 
 A character that is not allowed there, or a string that is not closed on its
@@ -141,59 +141,66 @@ wrong.plm:
 
 Printed: `C7 wrong.plm 3`. Cure: the semicolon at the end of line 2.
 
-You have                       Line of           Write
------------------------------  ----------------  -------------------------------
-a statement without its        the next word     the semicolon
-  semicolon
-`IF A THEN B = 1 ELSE B = 2;`  `ELSE`            `IF A THEN B = 1; ELSE B = 2;`
-`A := 1;`                      `:=`              `A = 1;` (`:=` only in
-                                                   parentheses in an expression)
-`A = 0, B = 0;`                the second `=`    `A, B = 0;`
-`V(I := I + 1)`,               `:=`              `V((I := I + 1))`: its own
-  `CALL P(A := 1)`                                 parentheses
-`CALL P();`                    `)`               `CALL P;`
-`P(3);`                        the semicolon     `CALL P(3);`
-`A < B < C`                    the second `<`    `A < B AND B < C`
-a DECLARE or a procedure       the DECLARE or    put it before the first
-  after a statement              the procedure     statement, or open a `DO;`
-                                                   for it
-`LOOP: DO; .. END LOOP;`       the name after    `END;`: only modules and
-                                 END               procedures have a name there
-`L: END;`                      `END`             `L: ; END;`
-one `END` too few              the last word     the END
-one `END` too many, or `EOF`   the word after    nothing
-  after the module               the module's
+You have                       Line of       Write
+-----------------------------  ------------  -----------------------------------
+a statement without its        the next      the semicolon
+  semicolon                      word
+`IF A THEN B = 1 ELSE B = 2;`  `ELSE`        `IF A THEN B = 1; ELSE B = 2;`
+`A := 1;`                      `:=`          `A = 1;` (`:=` only in parentheses
+                                               in an expression)
+`A = 0, B = 0;`                the second    `A, B = 0;`
+                                 `=`
+`V(I := I + 1)`,               `:=`          `V((I := I + 1))`: its own
+  `CALL P(A := 1)`                             parentheses
+`CALL P();`                    `)`           `CALL P;`
+`P(3);`                        the           `CALL P(3);`
+                                 semicolon
+`A < B < C`                    the second    `A < B AND B < C`
+                                 `<`
+a DECLARE or a procedure       the DECLARE   put it before the first statement,
+  after a statement              or the        or open a `DO;` for it
+                                 procedure
+`LOOP: DO; .. END LOOP;`       the name      `END;`: only modules and procedures
+                                 after END     have a name there
+`L: END;`                      `END`         `L: ; END;`
+one `END` too few              the last      the END
+                                 word
+one `END` too many, or `EOF`   the word      nothing
+  after the module               after the
+                                 module's
                                  end
-a listing with numbers before  the first number  the source, which
-  its lines                                        `plm convert --listing` takes
-                                                   out of it
-`100H:` before the module      the number        nothing: delete it, and use
-                                                   `--code 256`
-`BOOLEAN` and other words of   that word         `DECLARE BOOLEAN LITERALLY
-  an included file                                 'BYTE';` and the like
-statements without a module    the first word    `NAME: DO;` before, `END NAME;`
-  around them                    that shows it     after them
-`PROCEDURE REENTRANT PUBLIC`,  `PUBLIC`          `PUBLIC REENTRANT`,
-  `INITIAL (1) PUBLIC`                             `PUBLIC INITIAL (1)`
-`DECLARE TEXT DATA ('HI');`    `DATA`            `DECLARE TEXT(*) BYTE DATA
-                                                   ('HI');`
-`GO TO L;`                     `GO`              `GOTO L;`
-`DECLARE L LABEL;`             `LABEL`           nothing: a label needs no
-                                                   declaration
-`DECLARE (X BASED P) BYTE;`    `BASED`           `DECLARE X BASED P BYTE;`
-`INITIAL (-1)`                 `-`               `INITIAL (255)` or `(65535)`
-`AT (.X(2))`,                  the `(` after X   `.X + 2`: a number of bytes
-  `INITIAL (.X(2))`
-`DECLARE Y BASED S.P BYTE;`    the `.`           an ADDRESS variable of its own
-`DO FOREVER;` without its      the `;`           `DECLARE FOREVER LITERALLY
-  definition                                       'WHILE 1';` before it
-`DECLARE W WORD;`, `INTEGER`,  that word         ADDRESS
+a listing with numbers before  the first     the source, which
+  its lines                      number        `plm convert --listing` takes out
+                                               of it
+`100H:` before the module      the number    nothing: delete it, and use
+                                               `--code 256`
+`BOOLEAN` and other words of   that word     `DECLARE BOOLEAN LITERALLY 'BYTE';`
+  an included file                             and the like
+statements without a module    the first     `NAME: DO;` before, `END NAME;`
+  around them                    word that     after them
+                                 shows it
+`PROCEDURE REENTRANT PUBLIC`,  `PUBLIC`      `PUBLIC REENTRANT`,
+  `INITIAL (1) PUBLIC`                         `PUBLIC INITIAL (1)`
+`DECLARE TEXT DATA ('HI');`    `DATA`        `DECLARE TEXT(*) BYTE DATA ('HI');`
+`GO TO L;`                     `GO`          `GOTO L;`
+`GO TO BDOS;`, `GOTO 0;`: an   the number    in MON1 and MON2 of CP/M: nothing,
+  address                                      and EXTERNAL in the heading;
+                                               `CALL MON1(0, 0);` for 0
+`DECLARE L LABEL;`             `LABEL`       nothing: a label needs no
+                                               declaration
+`DECLARE (X BASED P) BYTE;`    `BASED`       `DECLARE X BASED P BYTE;`
+`INITIAL (-1)`                 `-`           `INITIAL (255)` or `(65535)`
+`AT (.X(2))`,                  the `(`       `.X + 2`: a number of bytes
+  `INITIAL (.X(2))`              after X
+`DECLARE Y BASED S.P BYTE;`    the `.`       an ADDRESS variable of its own
+`DO FOREVER;` without its      the `;`       `DECLARE FOREVER LITERALLY 'WHILE
+  definition                                   1';` before it
+`DECLARE W WORD;`, `INTEGER`,  that word     ADDRESS
   `POINTER` (PL/M-86)
-`PROCEDURE INTERRUPT 3`,       that word         interrupts are left out: poll a
-  `ENABLE;`, `DISABLE;`                            port in a loop
-`A PLUS B`, `A MINUS B`        that word         see \"Differences from Intel's
-                                                   PL/M-80 V4\" in
-                                                   `docs/language.md`
+`PROCEDURE INTERRUPT 3`,       that word     interrupts are left out: poll a
+  `ENABLE;`, `DISABLE;`                        port in a loop
+`A PLUS B`, `A MINUS B`        that word     see \"Differences from Intel's
+                                               PL/M-80 V4\" in `docs/language.md`
 
 `plm convert` mends some of these in an old source: `docs/convert.md` says
 which.
@@ -315,6 +322,7 @@ a base that is a BYTE, an array, a   an ADDRESS variable of its own
 `RETURN;` at the level of the        HALT
   module
 `LENGTH(A)` of a scalar              `SIZE(A)`
+`SIZE(T(0))`, `LENGTH(T(0).D)`       `SIZE(T) / LENGTH(T)`, `LENGTH(T.D)`
 \x0cC14
 
 An attribute or a declaration that is not allowed there:
