@@ -66,6 +66,13 @@ fn split_at_place<'w, 'a>(words: &'w [Word<'a>], start: u32) -> (&'w [Word<'a>],
     words.split_at(count.min(words.len()))
 }
 
+// What a dot stands before: the name of a member, after that of its structure, or a name whose location is meant.
+#[derive(Clone, Copy, PartialEq, Eq)]
+enum Dot {
+    Member,
+    Location,
+}
+
 // A text that is refused: what is told of that, its words as they stand, and with those of its LITERALLY definitions, the
 // place of the word at fault, if there is one, the words before it, and it with those after it.
 #[derive(Clone, Copy)]
@@ -136,11 +143,14 @@ impl<'a> Refused<'_, 'a, '_, '_> {
         }
     }
 
-    // Whether the word at fault comes after a dot, as the name of a member.
-    fn is_member(&self) -> bool {
+    // What the word at fault comes after, if that is a dot: the one of a member, or of a location.
+    fn dot(&self) -> Option<Dot> {
         match self.before {
-            [.., last] => last.kind == Kind::Mark(Mark::Period),
-            [] => false,
+            [.., around, last] if last.kind == Kind::Mark(Mark::Period) => match around.kind {
+                Kind::Name | Kind::Mark(Mark::RightParenthesis) => Some(Dot::Member),
+                _ => Some(Dot::Location),
+            },
+            _ => None,
         }
     }
 
@@ -325,21 +335,42 @@ fn explain_name(page: &mut Page, refused: &Refused) {
                 Piece::Text("A number begins with a digit: 0"),
                 Piece::Shown(word.text),
             ]);
-        } else if !refused.is_member()
-            && let Some(at) = find_object(refused.words, word.text)
-        {
-            explain_declared(page, refused, at);
-        } else if let Some(cure) = cure_of(word.text)
-            && !refused.is_member()
-        {
-            page.sentence(&[Piece::Text(cure)]);
-        } else if let Some(line) = find_named(refused.words, word.text, true) {
-            page.sentence(&[
-                Piece::Text("The procedure of this name is declared in line "),
-                Piece::Number(line),
-            ]);
-            show_line(page, refused.text, line);
+        } else if refused.dot() != Some(Dot::Member) {
+            explain_unknown(page, refused, word);
         }
+    }
+}
+
+// Adds where something of a name is that is not known and names no member, or what to write for it.
+fn explain_unknown(page: &mut Page, refused: &Refused, word: Word) {
+    if let Some(at) = find_object(refused.words, word.text) {
+        explain_declared(page, refused, at);
+    } else if let Some(cure) = cure_of(word.text) {
+        page.sentence(&[Piece::Text(cure)]);
+    } else if let Some(line) = find_named(refused.words, word.text, true) {
+        page.sentence(&[
+            Piece::Text("The procedure of this name is declared in line "),
+            Piece::Number(line),
+        ]);
+        show_line(page, refused.text, line);
+    } else if refused.dot() == Some(Dot::Location) {
+        explain_location(page, refused, word.text);
+    }
+}
+
+// Adds where a label is whose location is asked for. The name of the module is none.
+fn explain_location(page: &mut Page, refused: &Refused, name: &[u8]) {
+    let within = refused.words.get(2..).unwrap_or(&[]);
+    if let Some(line) = find_named(within, name, false) {
+        page.sentence(&[
+            Piece::Shown(name),
+            Piece::Text(" is a label, in line "),
+            Piece::Number(line),
+            Piece::Text(
+                ", whose location is left out: delete the jump to it, and plm hex --jump makes one",
+            ),
+        ]);
+        show_line(page, refused.text, line);
     }
 }
 
