@@ -18,6 +18,10 @@ pub(crate) enum Hint<'a> {
     NamedGroup {
         line: u32,
     },
+    /// The name of something around this DO stands after its END.
+    NamedAround {
+        line: u32,
+    },
     /// This reserved word stands where a name is declared.
     Reserved(&'a [u8]),
     /// BASED and its variable stand after the type, and not after the name.
@@ -28,6 +32,16 @@ pub(crate) enum Hint<'a> {
     },
     /// What this sentence says.
     Said(&'static str),
+}
+
+/// Whether one of those that are open has a name.
+pub(crate) fn is_around(open: &[Opener], name: &[u8]) -> bool {
+    for opener in open {
+        if is_same_name(opener.name, name) {
+            return true;
+        }
+    }
+    false
 }
 
 // That the text does not begin as a module.
@@ -137,6 +151,21 @@ fn is_call(words: &[Word]) -> bool {
     is_call
 }
 
+// What is likely wrong at a name after END, where this ends a DO.
+fn hint_of_end(name: &[u8], open: &[Opener]) -> Option<Hint<'static>> {
+    match open {
+        [around @ .., last] if matches!(last.opened, Opened::Group) => {
+            let line = last.line;
+            if is_around(around, name) {
+                Some(Hint::NamedAround { line })
+            } else {
+                Some(Hint::NamedGroup { line })
+            }
+        }
+        _ => None,
+    }
+}
+
 // What is likely wrong at a word that may stand elsewhere, by itself and the word before it.
 fn hint_of_pair(before: &Word, word: &Word, open: &[Opener]) -> Option<Hint<'static>> {
     match (before.kind, word.kind) {
@@ -146,12 +175,7 @@ fn hint_of_pair(before: &Word, word: &Word, open: &[Opener]) -> Option<Hint<'sta
         (Kind::Mark(Mark::LeftParenthesis), Kind::Mark(Mark::RightParenthesis)) => {
             Some(Hint::Said("Without arguments there are no parentheses"))
         }
-        (Kind::Reserved(ReservedWord::End), Kind::Name) => match open {
-            [.., last] if matches!(last.opened, Opened::Group) => {
-                Some(Hint::NamedGroup { line: last.line })
-            }
-            _ => None,
-        },
+        (Kind::Reserved(ReservedWord::End), Kind::Name) => hint_of_end(word.text, open),
         (Kind::Mark(Mark::Semicolon), Kind::Reserved(ReservedWord::Declare))
         | (Kind::Mark(Mark::Colon), Kind::Reserved(ReservedWord::Procedure)) => Some(Hint::Said(
             "Declarations and procedures come before the first statement of their block",
@@ -361,6 +385,11 @@ impl Hint<'_> {
                 Piece::Text("This END ends the DO of line "),
                 Piece::Number(line),
                 Piece::Text(", and only modules and procedures have a name after END"),
+            ]),
+            Hint::NamedAround { line } => page.sentence(&[
+                Piece::Text("This END ends the DO of line "),
+                Piece::Number(line),
+                Piece::Text(", so an END may be missing before it"),
             ]),
             Hint::Reserved(word) => page.sentence(&[
                 Piece::Shown(word),

@@ -2,9 +2,9 @@
 
 use crate::converted::text_of_words;
 use crate::explanation::Seen;
-use crate::hints::{Hint, hint_at};
+use crate::hints::{Hint, hint_at, is_around};
 use crate::kinds::as_source;
-use crate::left_out::{cure_of, is_number_without_digit, is_same_name};
+use crate::left_out::{cure_of, is_number_without_digit};
 use crate::lines::{show_line, show_place};
 use crate::listing::is_listing;
 use crate::named::{find_named, leaves_procedure};
@@ -201,6 +201,9 @@ fn explain_word(page: &mut Page, refused: &Refused) {
     if let Some(hint) = hint {
         hint.add(page);
     }
+    if let Some(Hint::NamedAround { line }) = hint {
+        show_line(page, refused.text, line);
+    }
     refused.add_expansion(page);
 }
 
@@ -251,17 +254,13 @@ fn explain_end_name(page: &mut Page, refused: &Refused) {
 // Adds what an END ends, and whether something around it has a name.
 fn add_ended(page: &mut Page, text: &[u8], open: &[Opener], name: &[u8]) {
     if let [around @ .., last] = open {
-        let mut is_around = false;
-        for opener in around {
-            is_around = is_around || is_same_name(opener.name, name);
-        }
         page.sentence(&[
             Piece::Text("This END ends "),
             Piece::Text(last.what()),
             Piece::Shown(last.name),
             Piece::Text(" of line "),
             Piece::Number(last.line),
-            Piece::Text(if is_around {
+            Piece::Text(if is_around(around, name) {
                 ", so an END may be missing before it"
             } else {
                 ""
