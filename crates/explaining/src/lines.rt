@@ -46,6 +46,31 @@ pub(crate) fn numbered_line(text: &[u8], number: u32) -> &[u8] {
     line_at(text, start_of(text, number))
 }
 
+/// What stands before a place of a text on its line.
+pub(crate) fn line_before(text: &[u8], place: usize) -> &[u8] {
+    let before = text.get(..place).unwrap_or(&[]);
+    let mut start = 0;
+    for (at, byte) in before.iter().enumerate() {
+        if *byte == b'\n' {
+            start = at.saturating_add(1);
+        }
+    }
+    before.get(start..).unwrap_or(&[])
+}
+
+/// Whether the beginning of a line is a number: of digits and blanks alone, and not of blanks alone.
+pub(crate) fn is_number(beginning: &[u8]) -> bool {
+    let mut has_digit = false;
+    for byte in beginning {
+        match *byte {
+            b'0'..=b'9' => has_digit = true,
+            b' ' | b'\t' => {}
+            _ => return false,
+        }
+    }
+    has_digit
+}
+
 // Shows the number of a line, and the line: all of a short one, else the part around a column. Below it comes a mark of
 // that column, if one is wanted.
 fn show(page: &mut Page, number: u32, line: &[u8], column: usize, is_marked: bool) {

@@ -5,7 +5,7 @@ use crate::explanation::Seen;
 use crate::hints::{Hint, hint_at, is_around};
 use crate::kinds::as_source;
 use crate::left_out::{cure_of, is_number_without_digit};
-use crate::lines::{show_line, show_place};
+use crate::lines::{is_number, line_before, show_line, show_place};
 use crate::listing::is_listing;
 use crate::named::{find_named, leaves_procedure};
 use crate::naming::{Named, awaited_after, find_in_block, find_object};
@@ -408,23 +408,23 @@ fn explain_typing(page: &mut Page, refused: &Refused, fault: &typing::Fault) {
     refused.add_expansion(page);
 }
 
-// Whether a place of a text is the beginning of a line.
-fn begins_line(text: &[u8], place: usize) -> bool {
-    match place.checked_sub(1) {
-        Some(before) => matches!(text.get(before), Some(b'\n')),
-        None => true,
+// What is said of a $ that begins no word, by what stands before it on its line.
+fn hint_of_dollar(before: &[u8]) -> &'static str {
+    if before.is_empty() {
+        "Control lines are left out: plm convert takes them out, and puts in the file of $INCLUDE; of a listing, add --listing"
+    } else if before.contains(&b'\'') {
+        "A quote may be missing before it on this line"
+    } else if is_number(before) {
+        "Numbers before the lines: take them away, as by cut -c8-"
+    } else {
+        "A control line begins with its $: put it at the beginning of a line, where plm convert takes it out"
     }
 }
 
-// What is said of a byte that begins no word, by whether it begins a line.
-fn hint_of_byte(byte: u8, begins_line: bool) -> Option<&'static str> {
+// What is said of a byte that begins no word, by what stands before it on its line.
+fn hint_of_byte(byte: u8, before: &[u8]) -> Option<&'static str> {
     match byte {
-        b'$' if !begins_line => Some(
-            "A control line begins with its $: put it at the beginning of a line, where plm convert takes it out",
-        ),
-        b'$' => Some(
-            "Control lines are left out: plm convert takes them out, and puts in the file of $INCLUDE; of a listing, add --listing",
-        ),
+        b'$' => Some(hint_of_dollar(before)),
         0 | 26 => Some(
             "^Z and zeros come from the end of a file of CP/M: delete them, or use plm convert",
         ),
@@ -449,7 +449,7 @@ fn explain_spelling(page: &mut Page, refused: &Refused) {
     } else if refused.told.number == "C1"
         && let Some(place) = refused.place
         && let Some(byte) = refused.text.get(place.start as usize)
-        && let Some(hint) = hint_of_byte(*byte, begins_line(refused.text, place.start as usize))
+        && let Some(hint) = hint_of_byte(*byte, line_before(refused.text, place.start as usize))
     {
         page.sentence(&[Piece::Text(hint)]);
         add_refused_byte(page, refused.text, place);
