@@ -124,6 +124,42 @@ pub(crate) fn add_missing(page: &mut Page, alloc: Global, files: &[KeptFile]) {
     }
 }
 
+// The line of the first statement of a module: of the first word in it that begins neither a DECLARE nor a procedure.
+fn first_statement(words: &[Word]) -> Option<u32> {
+    let mut level = 0_u32;
+    let mut is_begin = false;
+    for (at, word) in words.iter().enumerate() {
+        let second = words.get(at.saturating_add(2));
+        match word.kind {
+            Kind::Reserved(ReservedWord::Declare) => {}
+            Kind::Reserved(ReservedWord::End) => level = level.saturating_sub(1),
+            _ if is_begin && level == 1 && !is_procedure(second) => return Some(word.line),
+            Kind::Reserved(ReservedWord::Do | ReservedWord::Procedure) => {
+                level = level.saturating_add(1);
+            }
+            _ => {}
+        }
+        is_begin = word.kind == Kind::Mark(Mark::Semicolon);
+    }
+    None
+}
+
+// Whether a word is PROCEDURE.
+fn is_procedure(word: Option<&Word>) -> bool {
+    match word {
+        Some(word) => word.kind == Kind::Reserved(ReservedWord::Procedure),
+        None => false,
+    }
+}
+
+// Shows the line of the first statement of a module.
+fn show_statement(page: &mut Page, alloc: Global, file: &[u8], text: &[u8]) {
+    let (_plain, words) = words_of(page, alloc, text);
+    if let Some(line) = first_statement(words.as_slice()) {
+        show_line_of(page, file, text, line);
+    }
+}
+
 // Whether a text is a module with statements of its own.
 fn has_statements(alloc: Global, text: &[u8]) -> bool {
     match read_source(alloc, text) {
@@ -132,7 +168,7 @@ fn has_statements(alloc: Global, text: &[u8]) -> bool {
     }
 }
 
-/// Adds the sources whose modules have statements.
+/// Adds the sources whose modules have statements, and shows the first of each.
 pub(crate) fn add_mains<'x>(page: &mut Page, alloc: Global, files: &'x [KeptFile]) {
     for file in files {
         if let Content::Bytes(text) = &file.content
@@ -142,6 +178,7 @@ pub(crate) fn add_mains<'x>(page: &mut Page, alloc: Global, files: &'x [KeptFile
                 Piece::Shown(file.name.as_slice()),
                 Piece::Text(" has statements"),
             ]);
+            show_statement(page, alloc, file.name.as_slice(), text.as_slice());
         }
     }
 }
