@@ -101,6 +101,24 @@ pub(crate) fn awaited_after(words: &[Word]) -> Option<Named> {
     naming.awaited
 }
 
+/// The line of the first word that a text is defined for: a name before LITERALLY, or before a name that stands for this, and a
+/// string.
+pub(crate) fn find_defined(words: &[Word], name: &[u8]) -> Option<u32> {
+    for (at, word) in words.iter().enumerate() {
+        if let [_, literally, text, ..] = words.get(at..).unwrap_or(&[])
+            && matches!(
+                literally.kind,
+                Kind::Name | Kind::Reserved(ReservedWord::Literally)
+            )
+            && text.kind == Kind::String
+            && is_same_name(word.text, name)
+        {
+            return Some(word.line);
+        }
+    }
+    None
+}
+
 /// How many words stand before the first one that declares a variable or a parameter of a name.
 pub(crate) fn find_object(words: &[Word], name: &[u8]) -> Option<usize> {
     let mut naming = Naming::new();

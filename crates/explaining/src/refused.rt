@@ -8,7 +8,7 @@ use crate::left_out::{cure_of, is_number_without_digit};
 use crate::lines::{is_number, line_before, show_line, show_place};
 use crate::listing::is_listing;
 use crate::named::{find_named, leaves_procedure};
-use crate::naming::{Named, awaited_after, find_in_block, find_object};
+use crate::naming::{Named, awaited_after, find_defined, find_in_block, find_object};
 use crate::openers::{Opened, Opener, openers};
 use crate::origins::add_origins;
 use crate::page::{MARGIN, Page, Piece};
@@ -472,6 +472,22 @@ fn add_refused_byte(page: &mut Page, text: &[u8], place: Place) {
     }
 }
 
+// Adds why the text has no expansion, and for a name that is defined twice, where it is defined before.
+fn explain_expansion(page: &mut Page, refused: &Refused, fault: &literally::Fault) {
+    refused.show_said(page, fault);
+    if let literally::Fault::Again { start, .. } = fault
+        && let (before, [word, ..]) = split_at_place(refused.plain, *start)
+        && let Some(line) = find_defined(before, word.text)
+    {
+        page.sentence(&[
+            Piece::Text("It is defined in line "),
+            Piece::Number(line),
+            Piece::Text(", too"),
+        ]);
+        show_line(page, refused.text, line);
+    }
+}
+
 // Adds why a text is refused.
 fn explain_fault(page: &mut Page, refused: &Refused, fault: &ReadFault) {
     if refused.before.len() <= 2 && is_listing(refused.text) {
@@ -481,7 +497,7 @@ fn explain_fault(page: &mut Page, refused: &Refused, fault: &ReadFault) {
     }
     match fault {
         ReadFault::Words(_) => explain_spelling(page, refused),
-        ReadFault::Expansion(fault) => refused.show_said(page, fault),
+        ReadFault::Expansion(fault) => explain_expansion(page, refused, fault),
         ReadFault::Syntax(syntax::Fault::Word { .. }) => explain_word(page, refused),
         ReadFault::Syntax(syntax::Fault::End { .. }) => explain_end(page, refused),
         ReadFault::Syntax(syntax::Fault::EndName { .. }) => explain_end_name(page, refused),
