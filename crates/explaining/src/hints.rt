@@ -22,6 +22,11 @@ pub(crate) enum Hint<'a> {
     NamedAround {
         line: u32,
     },
+    /// A declaration stands among the statements of this procedure, which begins on this line.
+    Late {
+        name: &'a [u8],
+        line: u32,
+    },
     /// This reserved word stands where a name is declared.
     Reserved(&'a [u8]),
     /// BASED and its variable stand after the type, and not after the name.
@@ -43,6 +48,9 @@ pub(crate) fn is_around(open: &[Opener], name: &[u8]) -> bool {
     }
     false
 }
+
+// That a declaration stands among statements.
+const LATE: &str = "Declarations and procedures come before the first statement of their block";
 
 // That the text does not begin as a module.
 const NO_MODULE: Hint<'static> = Hint::Said(
@@ -166,8 +174,19 @@ fn hint_of_end(name: &[u8], open: &[Opener]) -> Option<Hint<'static>> {
     }
 }
 
+// What is likely wrong at a declaration among statements.
+fn hint_of_declaration<'a>(open: &[Opener<'a>]) -> Hint<'a> {
+    match open {
+        [.., last] if matches!(last.opened, Opened::Procedure) => Hint::Late {
+            name: last.name,
+            line: last.line,
+        },
+        _ => Hint::Said(LATE),
+    }
+}
+
 // What is likely wrong at a word that may stand elsewhere, by itself and the word before it.
-fn hint_of_pair(before: &Word, word: &Word, open: &[Opener]) -> Option<Hint<'static>> {
+fn hint_of_pair<'a>(before: &Word, word: &Word, open: &[Opener<'a>]) -> Option<Hint<'a>> {
     match (before.kind, word.kind) {
         (_, Kind::Mark(Mark::AssignSign)) => Some(Hint::Said(
             "An assignment has =, and := stands only in parentheses in an expression",
@@ -177,9 +196,9 @@ fn hint_of_pair(before: &Word, word: &Word, open: &[Opener]) -> Option<Hint<'sta
         }
         (Kind::Reserved(ReservedWord::End), Kind::Name) => hint_of_end(word.text, open),
         (Kind::Mark(Mark::Semicolon), Kind::Reserved(ReservedWord::Declare))
-        | (Kind::Mark(Mark::Colon), Kind::Reserved(ReservedWord::Procedure)) => Some(Hint::Said(
-            "Declarations and procedures come before the first statement of their block",
-        )),
+        | (Kind::Mark(Mark::Colon), Kind::Reserved(ReservedWord::Procedure)) => {
+            Some(hint_of_declaration(open))
+        }
         (before_kind, Kind::Reserved(ReservedWord::Else)) => {
             if before_kind == Kind::Mark(Mark::Semicolon) {
                 Some(Hint::Said(
@@ -339,7 +358,7 @@ pub(crate) fn hint_at<'a>(
     before: &[Word<'a>],
     word: &Word<'a>,
     next: Option<&Word<'a>>,
-    open: &[Opener],
+    open: &[Opener<'a>],
 ) -> Option<Hint<'a>> {
     match before {
         [] => hint_of_first(word, next),
@@ -390,6 +409,14 @@ impl Hint<'_> {
                 Piece::Text("This END ends the DO of line "),
                 Piece::Number(line),
                 Piece::Text(", so an END may be missing before it"),
+            ]),
+            Hint::Late { name, line } => page.sentence(&[
+                Piece::Text(LATE),
+                Piece::Text(", or an END is missing: the procedure "),
+                Piece::Shown(name),
+                Piece::Text(" of line "),
+                Piece::Number(line),
+                Piece::Text(" is open"),
             ]),
             Hint::Reserved(word) => page.sentence(&[
                 Piece::Shown(word),

@@ -201,7 +201,7 @@ fn explain_word(page: &mut Page, refused: &Refused) {
     if let Some(hint) = hint {
         hint.add(page);
     }
-    if let Some(Hint::NamedAround { line }) = hint {
+    if let Some(Hint::NamedAround { line } | Hint::Late { line, .. }) = hint {
         show_line(page, refused.text, line);
     }
     refused.add_expansion(page);
