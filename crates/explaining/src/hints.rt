@@ -208,6 +208,9 @@ fn hint_of_pair<'a>(before: &Word, word: &Word, open: &[Opener<'a>]) -> Option<H
                 Some(Hint::Said("A semicolon is missing before ELSE"))
             }
         }
+        (Kind::Reserved(ReservedWord::Goto), Kind::Number(_)) => Some(Hint::Said(
+            "GO TO an address: in MON1 or MON2 of CP/M delete it and write EXTERNAL in the heading; for GO TO 0 write CALL MON1(0, 0)",
+        )),
         (Kind::Mark(Mark::EqualSign), Kind::Mark(Mark::EqualSign)) => {
             Some(Hint::Said("An assignment and a comparison both have one ="))
         }
