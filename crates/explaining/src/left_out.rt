@@ -22,9 +22,9 @@ INTERRUPT Interrupts are left out: read a status port in a loop, as in examples/
 LABEL A label needs no declaration: delete it
 LF LF came from an included file: DECLARE LF LITERALLY '0AH'
 MEMORY MEMORY is left out: DECLARE MEMORY(4096) BYTE AT (8000H)
-MINUS MINUS is left out: SBB(A, B) of examples/arithmetic, for the - of the byte before too, after CARRY = 0
+MINUS MINUS is left out: SBB(A, B) of examples/arithmetic, for the - of the byte before too, after CARRY = 0; within DEC( ) it is DEC$SBB(A, B)
 PARITY PARITY is left out: compare the value
-PLUS PLUS is left out: ADC(A, B) of examples/arithmetic, for the + of the byte before too, after CARRY = 0
+PLUS PLUS is left out: ADC(A, B) of examples/arithmetic, for the + of the byte before too, after CARRY = 0; within DEC( ) it is DEC$ADC(A, B)
 POINTER POINTER is of PL/M-86: ADDRESS
 SCL SCL is left out: SCL of examples/arithmetic; of several bytes SHIFT$LEFT
 SCR SCR is left out: SCR of examples/arithmetic; of several bytes SHIFT$RIGHT
