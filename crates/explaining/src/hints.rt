@@ -208,6 +208,9 @@ fn hint_of_pair<'a>(before: &Word, word: &Word, open: &[Opener<'a>]) -> Option<H
                 Some(Hint::Said("A semicolon is missing before ELSE"))
             }
         }
+        (Kind::Mark(Mark::LeftParenthesis | Mark::Comma), Kind::Mark(Mark::MinusSign)) => {
+            Some(Hint::Said("No negative number here: for -1 write 255, or 65535 of an ADDRESS"))
+        }
         (Kind::Reserved(ReservedWord::Goto), Kind::Number(_)) => Some(Hint::Said(
             "GO TO an address: in MON1 or MON2 of CP/M delete it and write EXTERNAL in the heading; for GO TO 0 write CALL MON1(0, 0)",
         )),
@@ -218,9 +221,20 @@ fn hint_of_pair<'a>(before: &Word, word: &Word, open: &[Opener<'a>]) -> Option<H
     }
 }
 
+// Whether words end with a dot and a name.
+fn is_location(words: &[Word]) -> bool {
+    match words {
+        [.., dot, name] => dot.kind == Kind::Mark(Mark::Period) && name.kind == Kind::Name,
+        _ => false,
+    }
+}
+
 // What is likely wrong at a word, by the words of its statement.
 fn hint_of_statement(before: &[Word], word: &Word) -> Option<Hint<'static>> {
     match word.kind {
+        Kind::Mark(Mark::LeftParenthesis) if is_location(before) => Some(Hint::Said(
+            "A location here has no subscript: .X + a number of bytes",
+        )),
         Kind::Mark(Mark::Semicolon) if is_call(before) => Some(Hint::Said(
             "A statement that calls a procedure begins with CALL",
         )),
