@@ -105,9 +105,9 @@ pub(crate) fn awaited_after(words: &[Word]) -> Option<Named> {
 /// string.
 pub(crate) fn find_defined(words: &[Word], name: &[u8]) -> Option<u32> {
     for (at, word) in words.iter().enumerate() {
-        if let [_, literally, text, ..] = words.get(at..).unwrap_or(&[])
+        if let [_, middle, text, ..] = words.get(at..).unwrap_or(&[])
             && matches!(
-                literally.kind,
+                middle.kind,
                 Kind::Name | Kind::Reserved(ReservedWord::Literally)
             )
             && text.kind == Kind::String
