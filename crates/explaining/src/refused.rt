@@ -357,6 +357,15 @@ fn explain_unknown(page: &mut Page, refused: &Refused, word: Word) {
     }
 }
 
+// Adds where a label is that stands after the dot of a location, and is known there.
+fn explain_no_variable(page: &mut Page, refused: &Refused, fault: &typing::Fault) {
+    if let typing::Cause::NoVariable = fault.cause
+        && let Some(word) = refused.word()
+    {
+        explain_location(page, refused, word.text);
+    }
+}
+
 // Adds where a label is whose location is asked for. The name of the module is none.
 fn explain_location(page: &mut Page, refused: &Refused, name: &[u8]) {
     let within = refused.words.get(2..).unwrap_or(&[]);
@@ -402,6 +411,7 @@ fn explain_typing(page: &mut Page, refused: &Refused, fault: &typing::Fault) {
     match refused.told.number {
         "C11" => explain_name(page, refused),
         "C12" => explain_twice(page, refused),
+        "C13" if refused.dot() == Some(Dot::Location) => explain_no_variable(page, refused, fault),
         "C20" => explain_label(page, refused),
         _ => {}
     }
