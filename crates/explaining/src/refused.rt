@@ -335,25 +335,25 @@ fn explain_name(page: &mut Page, refused: &Refused) {
                 Piece::Shown(word.text),
             ]);
         } else if refused.dot() != Some(Dot::Member) {
-            explain_unknown(page, refused, word);
+            explain_unknown(page, refused, word.text);
         }
     }
 }
 
 // Adds where something of a name is that is not known and names no member, or what to write for it.
-fn explain_unknown(page: &mut Page, refused: &Refused, word: Word) {
-    if let Some(at) = find_object(refused.words, word.text) {
+fn explain_unknown(page: &mut Page, refused: &Refused, name: &[u8]) {
+    if let Some(at) = find_object(refused.words, name) {
         explain_declared(page, refused, at);
-    } else if let Some(cure) = cure_of(word.text) {
+    } else if let Some(cure) = cure_of(name) {
         page.sentence(&[Piece::Text(cure)]);
-    } else if let Some(line) = find_named(refused.words, word.text, true) {
+    } else if let Some(line) = find_named(refused.words, name, true) {
         page.sentence(&[
             Piece::Text("The procedure of this name is declared in line "),
             Piece::Number(line),
         ]);
         show_line(page, refused.text, line);
     } else if refused.dot() == Some(Dot::Location) {
-        explain_location(page, refused, word.text);
+        explain_location(page, refused, name);
     }
 }
 
