@@ -58,6 +58,15 @@ pub(crate) fn line_before(text: &[u8], place: usize) -> &[u8] {
     before.get(start..).unwrap_or(&[])
 }
 
+/// Whether a line has a quote without another.
+pub(crate) fn has_lone_quote(line: &[u8]) -> bool {
+    let mut is_lone = false;
+    for byte in line {
+        is_lone = is_lone != (*byte == b'\'');
+    }
+    is_lone
+}
+
 /// Whether the beginning of a line is a number: of digits and blanks alone, and not of blanks alone.
 pub(crate) fn is_number(beginning: &[u8]) -> bool {
     let mut has_digit = false;

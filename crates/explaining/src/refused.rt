@@ -5,7 +5,7 @@ use crate::explanation::Seen;
 use crate::hints::{Hint, hint_at, is_around};
 use crate::kinds::as_source;
 use crate::left_out::{cure_of, is_number_without_digit};
-use crate::lines::{is_number, line_before, show_line, show_place};
+use crate::lines::{has_lone_quote, is_number, line_before, numbered_line, show_line, show_place};
 use crate::listing::is_listing;
 use crate::named::{find_named, leaves_procedure};
 use crate::naming::{Named, awaited_after, find_defined, find_in_block, find_object};
@@ -418,11 +418,11 @@ fn explain_typing(page: &mut Page, refused: &Refused, fault: &typing::Fault) {
     refused.add_expansion(page);
 }
 
-// What is said of a $ that begins no word, by what stands before it on its line.
-fn hint_of_dollar(before: &[u8]) -> &'static str {
+// What is said of a $ that begins no word, by its line, and by what stands before it there.
+fn hint_of_dollar(line: &[u8], before: &[u8]) -> &'static str {
     if before.is_empty() {
         "Control lines are left out: plm convert takes them out, and puts in the file of $INCLUDE; of a listing, add --listing"
-    } else if before.contains(&b'\'') {
+    } else if has_lone_quote(line) {
         "A quote may be missing before it on this line"
     } else if is_number(before) {
         "Numbers before the lines: take them away, as by cut -c8-"
@@ -431,10 +431,10 @@ fn hint_of_dollar(before: &[u8]) -> &'static str {
     }
 }
 
-// What is said of a byte that begins no word, by what stands before it on its line.
-fn hint_of_byte(byte: u8, before: &[u8]) -> Option<&'static str> {
+// What is said of a byte that begins no word, by its line, and by what stands before it there.
+fn hint_of_byte(byte: u8, line: &[u8], before: &[u8]) -> Option<&'static str> {
     match byte {
-        b'$' => Some(hint_of_dollar(before)),
+        b'$' => Some(hint_of_dollar(line, before)),
         0 | 26 => Some(
             "^Z and zeros come from the end of a file of CP/M: delete them, or use plm convert",
         ),
@@ -458,11 +458,20 @@ fn explain_spelling(page: &mut Page, refused: &Refused) {
         hint.add(page);
     } else if refused.told.number == "C1"
         && let Some(place) = refused.place
-        && let Some(byte) = refused.text.get(place.start as usize)
-        && let Some(hint) = hint_of_byte(*byte, line_before(refused.text, place.start as usize))
+    {
+        explain_byte(page, refused.text, place);
+    }
+}
+
+// Adds what is said of the byte at a place, which begins no word.
+fn explain_byte(page: &mut Page, text: &[u8], place: Place) {
+    let start = place.start as usize;
+    let line = numbered_line(text, place.line);
+    if let Some(byte) = text.get(start)
+        && let Some(hint) = hint_of_byte(*byte, line, line_before(text, start))
     {
         page.sentence(&[Piece::Text(hint)]);
-        add_refused_byte(page, refused.text, place);
+        add_refused_byte(page, text, place);
     }
 }
 
