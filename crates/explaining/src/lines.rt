@@ -46,7 +46,7 @@ pub(crate) fn numbered_line(text: &[u8], number: u32) -> &[u8] {
     line_at(text, start_of(text, number))
 }
 
-/// What stands before a place of a text on its line.
+/// The part of a line before a place of a text.
 pub(crate) fn line_before(text: &[u8], place: usize) -> &[u8] {
     let before = text.get(..place).unwrap_or(&[]);
     let mut start = 0;

@@ -366,7 +366,7 @@ fn explain_no_variable(page: &mut Page, refused: &Refused, fault: &typing::Fault
     }
 }
 
-// Adds where a label is whose location is asked for. The name of the module is none.
+// Adds where a label is whose location is asked for. The name of the module is no label.
 fn explain_location(page: &mut Page, refused: &Refused, name: &[u8]) {
     let within = refused.words.get(2..).unwrap_or(&[]);
     if let Some(line) = find_named(within, name, false) {
@@ -418,7 +418,7 @@ fn explain_typing(page: &mut Page, refused: &Refused, fault: &typing::Fault) {
     refused.add_expansion(page);
 }
 
-// What is said of a $ that begins no word, by its line, and by what stands before it there.
+// The hint for a $ that begins no word, from its line and the part of the line before it.
 fn hint_of_dollar(line: &[u8], before: &[u8]) -> &'static str {
     if before.is_empty() {
         "Control lines are left out: plm convert takes them out, and puts in the file of $INCLUDE; of a listing, add --listing"
@@ -431,7 +431,7 @@ fn hint_of_dollar(line: &[u8], before: &[u8]) -> &'static str {
     }
 }
 
-// What is said of a byte that begins no word, by its line, and by what stands before it there.
+// The hint for a byte that begins no word, from its line and the part of the line before it.
 fn hint_of_byte(byte: u8, line: &[u8], before: &[u8]) -> Option<&'static str> {
     match byte {
         b'$' => Some(hint_of_dollar(line, before)),
