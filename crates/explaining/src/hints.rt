@@ -159,12 +159,20 @@ fn is_call(words: &[Word]) -> bool {
     is_call
 }
 
-// What is likely wrong at a name after END, where this ends a DO.
-fn hint_of_end(name: &[u8], open: &[Opener]) -> Option<Hint<'static>> {
+// Whether a name stands after an END that ends a DO.
+fn is_named_end(before: &Word, word: &Word, last: &Opener) -> bool {
+    match (before.kind, word.kind, last.opened) {
+        (Kind::Reserved(ReservedWord::End), Kind::Name, Opened::Group) => true,
+        _ => false,
+    }
+}
+
+// What is likely wrong at a name after the END of a DO.
+fn hint_of_end(before: &Word, word: &Word, open: &[Opener]) -> Option<Hint<'static>> {
     match open {
-        [around @ .., last] if matches!(last.opened, Opened::Group) => {
+        [around @ .., last] if is_named_end(before, word, last) => {
             let line = last.line;
-            if is_around(around, name) {
+            if is_around(around, word.text) {
                 Some(Hint::NamedAround { line })
             } else {
                 Some(Hint::NamedGroup { line })
@@ -174,30 +182,37 @@ fn hint_of_end(name: &[u8], open: &[Opener]) -> Option<Hint<'static>> {
     }
 }
 
+// Whether a declaration or a heading stands after a statement.
+fn is_late(before: &Word, word: &Word) -> bool {
+    match (before.kind, word.kind) {
+        (Kind::Mark(Mark::Semicolon), Kind::Reserved(ReservedWord::Declare))
+        | (Kind::Mark(Mark::Colon), Kind::Reserved(ReservedWord::Procedure)) => true,
+        _ => false,
+    }
+}
+
 // What is likely wrong at a declaration among statements.
-fn hint_of_declaration<'a>(open: &[Opener<'a>]) -> Hint<'a> {
+fn hint_of_declaration<'a>(before: &Word, word: &Word, open: &[Opener<'a>]) -> Option<Hint<'a>> {
+    if !is_late(before, word) {
+        return None;
+    }
     match open {
-        [.., last] if matches!(last.opened, Opened::Procedure) => Hint::Late {
+        [.., last] if matches!(last.opened, Opened::Procedure) => Some(Hint::Late {
             name: last.name,
             line: last.line,
-        },
-        _ => Hint::Said(LATE),
+        }),
+        _ => Some(Hint::Said(LATE)),
     }
 }
 
 // What is likely wrong at a word that may stand elsewhere, by itself and the word before it.
-fn hint_of_pair<'a>(before: &Word, word: &Word, open: &[Opener<'a>]) -> Option<Hint<'a>> {
+fn hint_of_pair(before: &Word, word: &Word) -> Option<Hint<'static>> {
     match (before.kind, word.kind) {
         (_, Kind::Mark(Mark::AssignSign)) => Some(Hint::Said(
             "An assignment has =, and := stands only in parentheses in an expression",
         )),
         (Kind::Mark(Mark::LeftParenthesis), Kind::Mark(Mark::RightParenthesis)) => {
             Some(Hint::Said("Without arguments there are no parentheses"))
-        }
-        (Kind::Reserved(ReservedWord::End), Kind::Name) => hint_of_end(word.text, open),
-        (Kind::Mark(Mark::Semicolon), Kind::Reserved(ReservedWord::Declare))
-        | (Kind::Mark(Mark::Colon), Kind::Reserved(ReservedWord::Procedure)) => {
-            Some(hint_of_declaration(open))
         }
         (before_kind, Kind::Reserved(ReservedWord::Else)) => {
             if before_kind == Kind::Mark(Mark::Semicolon) {
@@ -397,7 +412,9 @@ pub(crate) fn hint_at<'a>(
             let hint = hint_of_reserved(before, word, next)
                 .or(hint_of_based(before, word, next))
                 .or(hint_of_else(before, word, open))
-                .or(hint_of_pair(last, word, open))
+                .or(hint_of_end(last, word, open))
+                .or(hint_of_declaration(last, word, open))
+                .or(hint_of_pair(last, word))
                 .or(hint_of_statement(before, word));
             if is_declared(before, word.text) {
                 hint

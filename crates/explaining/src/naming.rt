@@ -101,22 +101,35 @@ pub(crate) fn awaited_after(words: &[Word]) -> Option<Named> {
     naming.awaited
 }
 
-/// The line of the first word that a text is defined for: a name before LITERALLY, or before a name that stands for this, and a
-/// string.
+/// The line of the first word of a name that a text is defined for.
 pub(crate) fn find_defined(words: &[Word], name: &[u8]) -> Option<u32> {
     for (at, word) in words.iter().enumerate() {
-        if let [_, middle, text, ..] = words.get(at..).unwrap_or(&[])
-            && matches!(
-                middle.kind,
-                Kind::Name | Kind::Reserved(ReservedWord::Literally)
-            )
-            && text.kind == Kind::String
-            && is_same_name(word.text, name)
-        {
+        let is_named = is_same_name(word.text, name);
+        let is_defined = is_definition(
+            words.get(at.saturating_add(1)),
+            words.get(at.saturating_add(2)),
+        );
+        if is_named && is_defined {
             return Some(word.line);
         }
     }
     None
+}
+
+// Whether words after a name are LITERALLY, or a name that stands for this, and a string.
+fn is_definition(middle: Option<&Word>, text: Option<&Word>) -> bool {
+    match (middle, text) {
+        (Some(middle), Some(text)) => is_definition_of(middle.kind, text.kind),
+        _ => false,
+    }
+}
+
+// Whether such kinds of words stand after a name that is defined.
+fn is_definition_of(middle: Kind, text: Kind) -> bool {
+    match (middle, text) {
+        (Kind::Name | Kind::Reserved(ReservedWord::Literally), Kind::String) => true,
+        _ => false,
+    }
 }
 
 /// How many words stand before the first one that declares a variable or a parameter of a name.
