@@ -12,7 +12,7 @@ use Rattle.interpreter.specs.internal.Counted.{numbered_bodies, numbered_body, n
 use Rattle.sources.specs.Trees.{DeclarationTree, DeclarationTrees, ElementTree, ElseTree, HeadingTree, ModuleTree, StatementKindTree, StatementTree, StatementTrees}
 use Rattle.sources.specs.internal.Counted.{count_of_else, count_of_parts, count_of_statement, count_of_statements, procedures_in, statements_in}
 use Rattle.sources.specs.internal.Items.{ElementTyping, a_definition, of_item, ElementsTyping, no_more_elements, next_element, ObjectsTyping, no_objects, next_object}
-use Rattle.sources.specs.internal.Modules.{StatementTyping, null, assignment, call, move, return, return_value, halt, goto, if_then, simple_do, do_while, iterative_do, do_case, AloneTyping, unlabelled, ElseTyping, no_else, with_else, CasesTyping, no_case, next_case, StatementsTyping, no_statement, next_statement, ListTyping, list, DeclarationTyping, declare, procedure, DeclarationsTyping, no_declaration, next_declaration, ModuleTyping, whole}
+use Rattle.sources.specs.internal.Modules.{StatementTyping, null, assignment, call, move, return, return_value, halt, goto, if_then, simple_do, loop, do_case, AloneTyping, unlabelled, ElseTyping, no_else, with_else, CasesTyping, no_case, next_case, StatementsTyping, no_statement, next_statement, ListTyping, list, DeclarationTyping, declare, procedure, DeclarationsTyping, no_declaration, next_declaration, ModuleTyping, whole}
 use Rattle.sources.specs.internal.Procedures.{HeadingTyping, heading_stands}
 
 -- labels before statements are statements
@@ -36,8 +36,7 @@ mutual
   kind_numbered (if_then _ body otherwise) =
       omega (arith, alone_numbered body, else_numbered otherwise)
   kind_numbered (simple_do _ body) = list_numbered body
-  kind_numbered (do_while _ body) = list_numbered body
-  kind_numbered (iterative_do _ body) = list_numbered body
+  kind_numbered (loop _ body) = list_numbered body
   kind_numbered (do_case _ body) = cases_numbered body
 
   alone_numbered : {block : Block} {progress after : Progress} {tree : StatementTree} {typed : TypedStatement}
@@ -164,8 +163,7 @@ mutual
   kind_adds (goto _) = adds_nothing _ _ refl
   kind_adds (if_then _ body otherwise) = adds_then _ _ _ _ _ (alone_adds body) (else_adds otherwise)
   kind_adds (simple_do declared body) = adds_then _ _ _ _ _ (declarations_add declared) (list_adds body)
-  kind_adds (do_while _ body) = list_adds body
-  kind_adds (iterative_do _ body) = list_adds body
+  kind_adds (loop _ body) = list_adds body
   kind_adds (do_case _ body) = cases_add body
 
   alone_adds : {block : Block} {progress after : Progress} {tree : StatementTree} {typed : TypedStatement}

@@ -16,7 +16,7 @@ use Rattle.grammar.specs.Forms.{expression_level, conjunction_level, negation_le
 use Rattle.grammar.specs.Nesting.{module_height, IsNestedWithin, ModuleEndsMatch}
 use Rattle.grammar.specs.Spelling.{binary_symbol, between_commas, constant_symbols, element_symbols, heading_symbols, ending_symbols}
 use Rattle.grammar.specs.Symbols.{Symbol, NameSymbol, NumberSymbol, StringSymbol, ReservedSymbol, PlacedSymbol, MarkSymbol, SemicolonSymbol, symbols_of}
-use Rattle.trees.specs.Trees.{StringTree, ConstantTree, NumberConstant, StringConstant, ExpressionTree, ConstantLeaf, ReferenceLeaf, LocationLeaf, ListLeaf, ParenthesizedNode, AssignmentNode, UnaryNode, BinaryNode, ReferenceTree, ReferenceTo, NoMember, MemberOf, ArgumentTrees, NoArguments, MoreArguments, ElementTree, HeadingTree, IterationTree, StatementTree, LabelledStatement, StatementKindTree, NullStatement, AssignmentStatement, CallStatement, ReturnStatement, HaltStatement, GotoStatement, IfStatement, NoElse, ElseStatement, DoStatement, WhileStatement, IterateStatement, CaseStatement, StatementTrees, NoStatements, MoreStatements, DeclarationTree, DeclareTree, ProcedureTree, DeclarationTrees, NoDeclarations, MoreDeclarations, ModuleTree}
+use Rattle.trees.specs.Trees.{StringTree, ConstantTree, NumberConstant, StringConstant, ExpressionTree, ConstantLeaf, ReferenceLeaf, LocationLeaf, ListLeaf, ParenthesizedNode, AssignmentNode, UnaryNode, BinaryNode, ReferenceTree, ReferenceTo, NoMember, MemberOf, ArgumentTrees, NoArguments, MoreArguments, ElementTree, HeadingTree, LoopHeadTree, WhileHead, CountHead, StatementTree, LabelledStatement, StatementKindTree, NullStatement, AssignmentStatement, CallStatement, ReturnStatement, HaltStatement, GotoStatement, IfStatement, NoElse, ElseStatement, DoStatement, LoopStatement, CaseStatement, StatementTrees, NoStatements, MoreStatements, DeclarationTree, DeclareTree, ProcedureTree, DeclarationTrees, NoDeclarations, MoreDeclarations, ModuleTree}
 
 mutual
   -- the symbols derive an expression at a level of the grammar
@@ -139,8 +139,30 @@ pub data DerivesTargets : List Symbol → List ReferenceTree → List Symbol →
       → DerivesTargets symbols (target ∷ others) rest
 
 -- the head of an iterative DO
-abbrev head : Identifier → ExpressionTree → ExpressionTree → Option ExpressionTree → IterationTree
-head variable first last step = record { variable = variable; first = first; last = last; step = step }
+abbrev count : Identifier → ExpressionTree → ExpressionTree → Option ExpressionTree → LoopHeadTree
+count variable first last step =
+    CountHead (record { variable = variable; first = first; last = last; step = step })
+
+-- the symbols derive the head of a loop, between DO and the semicolon before its statements
+pub data DerivesHead : List Symbol → LoopHeadTree → List Symbol → Type 0 where
+  -- head: WHILE expression
+  while_head : {symbols rest : List Symbol} {condition : ExpressionTree}
+      → DerivesExpression expression_level symbols condition rest
+      → DerivesHead (ReservedSymbol words.While ∷ symbols) (WhileHead condition) rest
+  -- head: name `=` expression TO expression
+  count_head : {variable : Identifier} {symbols to rest : List Symbol} {first last : ExpressionTree}
+      → DerivesExpression expression_level symbols first (ReservedSymbol words.To ∷ to)
+      → DerivesExpression expression_level to last rest
+      → DerivesHead (NameSymbol variable ∷ MarkSymbol EqualSign ∷ symbols)
+      (count variable first last None) rest
+  -- head: name `=` expression TO expression BY expression
+  count_by_head : {variable : Identifier} {symbols to by rest : List Symbol}
+      {first last step : ExpressionTree}
+      → DerivesExpression expression_level symbols first (ReservedSymbol words.To ∷ to)
+      → DerivesExpression expression_level to last (ReservedSymbol words.By ∷ by)
+      → DerivesExpression expression_level by step rest
+      → DerivesHead (NameSymbol variable ∷ MarkSymbol EqualSign ∷ symbols)
+      (count variable first last (Some step)) rest
 
 mutual
   pub data DerivesStatement : List Symbol → StatementTree → List Symbol → Type 0 where
@@ -208,31 +230,12 @@ mutual
         → DerivesStatements middle body (ReservedSymbol words.End ∷ SemicolonSymbol end ∷ rest)
         → DerivesKind (PlacedSymbol words.Do place ∷ SemicolonSymbol start ∷ symbols)
         (DoStatement place declared body) rest
-    -- statement: DO WHILE expression `;` {statement} END `;`
-    do_while : {place start end : Place} {symbols middle rest : List Symbol} {condition : ExpressionTree}
+    -- statement: DO head `;` {statement} END `;`
+    do_loop : {place start end : Place} {symbols middle rest : List Symbol} {head : LoopHeadTree}
         {body : StatementTrees}
-        → DerivesExpression expression_level symbols condition (SemicolonSymbol start ∷ middle)
+        → DerivesHead symbols head (SemicolonSymbol start ∷ middle)
         → DerivesStatements middle body (ReservedSymbol words.End ∷ SemicolonSymbol end ∷ rest)
-        → DerivesKind (PlacedSymbol words.Do place ∷ ReservedSymbol words.While ∷ symbols)
-        (WhileStatement place condition body) rest
-    -- statement: DO name `=` expression TO expression `;` {statement} END `;`
-    iterative_do : {place start end : Place} {variable : Identifier} {symbols to middle rest : List Symbol}
-        {first last : ExpressionTree} {body : StatementTrees}
-        → DerivesExpression expression_level symbols first (ReservedSymbol words.To ∷ to)
-        → DerivesExpression expression_level to last (SemicolonSymbol start ∷ middle)
-        → DerivesStatements middle body (ReservedSymbol words.End ∷ SemicolonSymbol end ∷ rest)
-        → DerivesKind (PlacedSymbol words.Do place ∷ NameSymbol variable ∷ MarkSymbol EqualSign ∷ symbols)
-        (IterateStatement place (head variable first last None) body) rest
-    -- statement: DO name `=` expression TO expression BY expression `;` {statement} END `;`
-    iterative_do_by : {place start end : Place} {variable : Identifier}
-        {symbols to by middle rest : List Symbol}
-        {first last step : ExpressionTree} {body : StatementTrees}
-        → DerivesExpression expression_level symbols first (ReservedSymbol words.To ∷ to)
-        → DerivesExpression expression_level to last (ReservedSymbol words.By ∷ by)
-        → DerivesExpression expression_level by step (SemicolonSymbol start ∷ middle)
-        → DerivesStatements middle body (ReservedSymbol words.End ∷ SemicolonSymbol end ∷ rest)
-        → DerivesKind (PlacedSymbol words.Do place ∷ NameSymbol variable ∷ MarkSymbol EqualSign ∷ symbols)
-        (IterateStatement place (head variable first last (Some step)) body) rest
+        → DerivesKind (PlacedSymbol words.Do place ∷ symbols) (LoopStatement place head body) rest
     -- statement: DO CASE expression `;` {statement} END `;`
     do_case : {place start end : Place} {symbols middle rest : List Symbol} {choice : ExpressionTree}
         {body : StatementTrees}

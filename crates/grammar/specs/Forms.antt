@@ -3,7 +3,7 @@
 use Rattle.std.specs.Prelude.{ℕ, Bool, true, false, List, [], ◌∷◌, IfSome}
 use Rattle.trees.specs.declared.expression.BinaryOperator.{BinaryOperator}
 use Rattle.trees.specs.declared.expression.BinaryOperator.TheVariants.{Or, Xor, And, Equal, Less, Greater, LessOrEqual, GreaterOrEqual, Unequal, Add, Subtract, Multiply, Divide, Modulo}
-use Rattle.trees.specs.Trees.{ItemTypeTree, ScalarItem, StructureItem, ValueListTree, SubjectTree, SingleSubject, GroupSubject, ItemTree, ElementTree, LiterallyElement, ItemElement, StatementTree, LabelledStatement, StatementKindTree, NullStatement, AssignmentStatement, CallStatement, ReturnStatement, HaltStatement, GotoStatement, IfStatement, DoStatement, WhileStatement, IterateStatement, CaseStatement, ElseTree, NoElse, ElseStatement}
+use Rattle.trees.specs.Trees.{ItemTypeTree, ScalarItem, StructureItem, ValueListTree, SubjectTree, SingleSubject, GroupSubject, ItemTree, ElementTree, LiterallyElement, ItemElement, StatementTree, LabelledStatement, StatementKindTree, NullStatement, AssignmentStatement, CallStatement, ReturnStatement, HaltStatement, GotoStatement, IfStatement, DoStatement, LoopStatement, CaseStatement, ElseTree, NoElse, ElseStatement}
 
 -- The levels of the grammar's expressions. An expression of a level may stand at each lower one.
 abbrev pub expression_level : ℕ
@@ -89,8 +89,7 @@ abbrev mutual
   is_open_if (HaltStatement place) = false
   is_open_if (GotoStatement place label) = false
   is_open_if (DoStatement place declared body) = false
-  is_open_if (WhileStatement place condition body) = false
-  is_open_if (IterateStatement place iteration body) = false
+  is_open_if (LoopStatement place head body) = false
   is_open_if (CaseStatement place choice body) = false
 
   pub is_open_else : ElseTree → Bool

@@ -3,7 +3,7 @@ use Rattle.std.specs.Prelude.{◌≡◌, ℕ, suc, ◌≤◌, max, List, [], ◌
 use Rattle.std.specs.Option.{option_map_or}
 use Rattle.trees.specs.declared.identifier.Identifier.{Identifier}
 use Rattle.grammar.specs.declared.TheConstants.{NESTING_LIMIT}
-use Rattle.trees.specs.Trees.{ExpressionTree, ConstantLeaf, ReferenceLeaf, LocationLeaf, ListLeaf, ParenthesizedNode, AssignmentNode, UnaryNode, BinaryNode, ReferenceTree, ReferenceTo, MemberTree, NoMember, MemberOf, ArgumentTrees, NoArguments, MoreArguments, IterationTree, StatementTree, LabelledStatement, StatementKindTree, NullStatement, AssignmentStatement, CallStatement, ReturnStatement, HaltStatement, GotoStatement, IfStatement, DoStatement, WhileStatement, IterateStatement, CaseStatement, ElseTree, NoElse, ElseStatement, StatementTrees, NoStatements, MoreStatements, DeclarationTree, DeclareTree, ProcedureTree, DeclarationTrees, NoDeclarations, MoreDeclarations, ModuleTree}
+use Rattle.trees.specs.Trees.{ExpressionTree, ConstantLeaf, ReferenceLeaf, LocationLeaf, ListLeaf, ParenthesizedNode, AssignmentNode, UnaryNode, BinaryNode, ReferenceTree, ReferenceTo, MemberTree, NoMember, MemberOf, ArgumentTrees, NoArguments, MoreArguments, IterationTree, LoopHeadTree, WhileHead, CountHead, StatementTree, LabelledStatement, StatementKindTree, NullStatement, AssignmentStatement, CallStatement, ReturnStatement, HaltStatement, GotoStatement, IfStatement, DoStatement, LoopStatement, CaseStatement, ElseTree, NoElse, ElseStatement, StatementTrees, NoStatements, MoreStatements, DeclarationTree, DeclareTree, ProcedureTree, DeclarationTrees, NoDeclarations, MoreDeclarations, ModuleTree}
 
 -- How many levels an expression takes. A leaf and an operator are one level, and so are parentheses; `(A := e)` is
 -- two.
@@ -49,6 +49,11 @@ iteration_height iteration =
     max (expression_height iteration.first)
     (max (expression_height iteration.last) (optional_height iteration.step))
 
+-- the levels of the head of a loop
+abbrev pub head_height : LoopHeadTree → ℕ
+head_height (WhileHead condition) = expression_height condition
+head_height (CountHead iteration) = iteration_height iteration
+
 -- How many levels a statement or a declaration takes. A statement and a procedure are one level, and the parts inside
 -- are deeper. Labels and DECLARE take none.
 abbrev mutual
@@ -67,10 +72,7 @@ abbrev mutual
       suc (max (expression_height condition) (max (statement_height body) (else_height otherwise)))
   kind_height (DoStatement place declared body) =
       suc (max (declarations_height declared) (statements_height body))
-  kind_height (WhileStatement place condition body) =
-      suc (max (expression_height condition) (statements_height body))
-  kind_height (IterateStatement place iteration body) =
-      suc (max (iteration_height iteration) (statements_height body))
+  kind_height (LoopStatement place head body) = suc (max (head_height head) (statements_height body))
   kind_height (CaseStatement place choice body) =
       suc (max (expression_height choice) (statements_height body))
 
@@ -119,8 +121,7 @@ abbrev mutual
   KindEndsMatch (IfStatement place condition body otherwise) =
       StatementEndsMatch body × ElseEndsMatch otherwise
   KindEndsMatch (DoStatement place declared body) = DeclarationsEndsMatch declared × StatementsEndsMatch body
-  KindEndsMatch (WhileStatement place condition body) = StatementsEndsMatch body
-  KindEndsMatch (IterateStatement place iteration body) = StatementsEndsMatch body
+  KindEndsMatch (LoopStatement place head body) = StatementsEndsMatch body
   KindEndsMatch (CaseStatement place choice body) = StatementsEndsMatch body
 
   pub ElseEndsMatch : ElseTree → Type 0

@@ -1,6 +1,7 @@
 -- One walk of the meaning. A law that says the same of each part of what statements and expressions do holds
 -- of all that they do: it is an instance of `Preserves`.
-use Rattle.meaning.proofs.Prelude.{Address, AssignmentNode, AssignmentStatement, At, BasedOn, BinaryNode, Bool, Byte, CallNode, CallStatement, CaseStatement, ConversionNode, Divide, DoStatement, ElseStatement, Elsewhere, Ended, Flow, FunctionNode, Gave, GotoStatement, HaltStatement, Home, IfStatement, InConstants, InData, InFrame, InMemory, InProgram, InputNode, IterateStatement, IterateTurn, Jumped, LabelStatement, Later, List, ListNode, ListOf, LocationNode, MEMORY_SIZE, MoreArguments, MoreStatements, MoveStatement, NoArguments, NoElse, NoStatements, NoSubscript, None, Nowhere, NullStatement, NumberNode, Onward, Option, Outcome, Outside, PartOf, Place, Placed, ReturnStatement, Returned, ScalarType, SentTo, ShiftNode, Some, Stack, State, Stopped, StoredIn, Subscript, Surroundings, Turn, TypedArguments, TypedElse, TypedExpression, TypedIteration, TypedList, TypedModule, TypedProcedure, TypedReference, TypedStatement, TypedStatements, TypedTarget, UnaryNode, ValueNode, WhileStatement, WhileTurn, [], as_type, based_place, body_of_turn, called_for, callee_in, caught_in, charge_of, charged, computed, cond, displacement, done, done_all, done_case, done_else, done_list, entered, false, frame_of, going_on, home_of, is_true, iterated, located, moved, nat_lt, next_place, option_map_or, parameters_set, place_of, read_byte, read_scalar, rest_of, result_of, returned, step_value, stepped, stored, stored_in_each, suc, taken_in, taking_one, then_do, true, turn_of, value, value_of_flow, values, values_of, write_byte, write_scalar, zero, ℕ, ◌%◌, ◌&&◌, ◌+◌, ◌-◌, ◌∷◌}
+use Rattle.meaning.proofs.Prelude.{Address, AssignmentNode, AssignmentStatement, At, BasedOn, BinaryNode, Bool, Byte, CallNode, CallStatement, CaseStatement, ConversionNode, Divide, DoStatement, ElseStatement, Elsewhere, Ended, Flow, FunctionNode, Gave, GotoStatement, HaltStatement, Home, IfStatement, InConstants, InData, InFrame, InMemory, InProgram, InputNode, Jumped, LabelStatement, Later, List, ListNode, ListOf, LocationNode, LoopStatement, LoopTurn, MEMORY_SIZE, MoreArguments, MoreStatements, MoveStatement, NoArguments, NoElse, NoStatements, NoSubscript, None, Nowhere, NullStatement, NumberNode, Onward, Option, Outcome, Outside, PartOf, Place, Placed, ReturnStatement, Returned, ScalarType, SentTo, ShiftNode, Some, Stack, State, Stopped, StoredIn, Subscript, Surroundings, Turn, TypedArguments, TypedElse, TypedExpression, TypedHead, TypedIteration, TypedList, TypedModule, TypedProcedure, TypedReference, TypedStatement, TypedStatements, TypedTarget, UnaryNode, ValueNode, [], as_type, based_place, begun, body_of_turn, called_for, callee_in, caught_in, charge_of, charged, computed, cond, displacement, done, done_all, done_case, done_else, done_list, entered, false, frame_of, going_on, home_of, is_true, located, moved, nat_lt, next_place, option_map_or, parameters_set, place_of, read_byte, read_scalar, rest_of, result_of, returned, step_value, stepped, stored, stored_in_each, suc, taken_in, taking_one, then_do, true, turn_of, turned, value, value_of_flow, values, values_of, write_byte, write_scalar, zero, ℕ, ◌%◌, ◌&&◌, ◌+◌, ◌-◌, ◌∷◌}
+use Rattle.typed_trees.specs.TypedTrees.{WhileHead, CountHead}
 use Rattle.meaning.specs.declared.reason.Reason.{Reason}
 
 -- a body in a frame of its own, after its parameters were set
@@ -28,9 +29,7 @@ pub record Condition (C : Type 0) : Type 1 where
   pub of_else : (c : C) (statement : TypedStatement) → HoldsElse c (ElseStatement statement)
       → Holds c statement
   pub of_group : (c : C) (body : TypedList) → Holds c (DoStatement body) → HoldsList c body
-  pub of_loop : (c : C) (condition : TypedExpression) (body : TypedList)
-      → Holds c (WhileStatement condition body) → HoldsList c body
-  pub of_iteration : (c : C) (head : TypedIteration) (body : TypedList) → Holds c (IterateStatement head body)
+  pub of_loop : (c : C) (head : TypedHead) (body : TypedList) → Holds c (LoopStatement head body)
       → HoldsList c body
   pub of_choices : (c : C) (choice : TypedExpression) (body : TypedStatements)
       → Holds c (CaseStatement choice body) → HoldsCase c body
@@ -53,8 +52,7 @@ no_condition = record {
   of_branches = λ c condition body otherwise holds. (tt, tt);
   of_else = λ c statement holds. tt;
   of_group = λ c body holds. tt;
-  of_loop = λ c condition body holds. tt;
-  of_iteration = λ c head body holds. tt;
+  of_loop = λ c head body holds. tt;
   of_choices = λ c choice body holds. tt;
   of_choice = λ c first others holds. (tt, tt);
   of_each = λ c first others holds. (tt, tt);
@@ -258,28 +256,31 @@ module _ (one other : Later) (around : Surroundings) {C : Type 0} (asks : Condit
         (λ found. and_taken c
         (scalar_written head.scalar (place_of around head.variable) (as_type head.scalar (found + step)))
         (λ done. by_test (T c) (nat_lt (found + step) (values_of head.scalar)) _ _ _ _
-        (keeps.taken_again c (IterateTurn head body) holds) (keeps.taken_on c))))
+        (keeps.taken_again c (LoopTurn (CountHead head) body) holds) (keeps.taken_on c))))
 
-    of_iterated : (c : C) (head : TypedIteration) (body : TypedList) (f g : State → Outcome Flow)
+    of_turned : (c : C) (head : TypedHead) (body : TypedList) (f g : State → Outcome Flow)
         → asks.HoldsList c body → F c f g
-        → F c (λ s. iterated one around head body f s) (λ s. iterated other around head body g s)
-    of_iterated c head body f g holds is =
+        → F c (λ s. turned one around head body f s) (λ s. turned other around head body g s)
+    of_turned c (WhileHead condition) body f g holds is =
+        and_does c (of_value condition)
+        (λ found. by_test (F c) (is_true found) _ _ _ _
+        (keeps.turns c f g (one.again (LoopTurn (WhileHead condition) body) around)
+        (other.again (LoopTurn (WhileHead condition) body) around) is
+        (keeps.taken_again c (LoopTurn (WhileHead condition) body) holds)) (keeps.goes_on c))
+    of_turned c (CountHead head) body f g holds is =
         and_does c (of_value head.last)
         (λ last. and_does c (scalar_read head.scalar (place_of around head.variable))
         (λ found. by_test (F c) (nat_lt last found) _ _ _ _ (keeps.goes_on c)
         (keeps.turns c f g (stepped one around head body Onward) (stepped other around head body Onward) is
         (after_step c head body holds))))
 
-    of_tested : (c : C) (condition : TypedExpression) (body : TypedList) → asks.HoldsList c body
-        → F c (λ s. done_list one around body s) (λ s. done_list other around body s)
-        → F c (λ s. done one around (WhileStatement condition body) s)
-        (λ s. done other around (WhileStatement condition body) s)
-    of_tested c condition body holds is =
-        and_does c (of_value condition)
-        (λ found. by_test (F c) (is_true found) _ _ _ _
-        (keeps.turns c (done_list one around body) (done_list other around body)
-        (one.again (WhileTurn condition body) around) (other.again (WhileTurn condition body) around)
-        is (keeps.taken_again c (WhileTurn condition body) holds)) (keeps.goes_on c))
+    of_begun : (c : C) (head : TypedHead) (f g : State → Outcome Flow) → F c f g
+        → F c (λ s. begun one around head f s) (λ s. begun other around head g s)
+    of_begun c (WhileHead condition) f g is = is
+    of_begun c (CountHead head) f g is =
+        and_does c (of_value head.first)
+        (λ found. and_does c
+        (scalar_written head.scalar (place_of around head.variable) (as_type head.scalar found)) (λ done. is))
 
     mutual
       pub of_statement : (c : C) (statement : TypedStatement) → asks.Holds c statement
@@ -306,16 +307,12 @@ module _ (one other : Later) (around : Surroundings) {C : Type 0} (asks : Condit
           (λ found. by_test (F c) (is_true found) _ _ _ _ (of_statement c body parts.0)
           (of_else c otherwise parts.1))
       of_statement c (DoStatement body) holds = of_list c body (asks.of_group c body holds)
-      of_statement c (WhileStatement condition body) holds =
-          let inner = asks.of_loop c condition body holds in
-          of_tested c condition body inner (of_list c body inner)
-      of_statement c (IterateStatement head body) holds =
-          let inner = asks.of_iteration c head body holds in
-          and_does c (of_value head.first)
-          (λ found. and_does c
-          (scalar_written head.scalar (place_of around head.variable) (as_type head.scalar found))
-          (λ done. of_iterated c head body (done_list one around body) (done_list other around body) inner
-          (of_list c body inner)))
+      of_statement c (LoopStatement head body) holds =
+          let inner = asks.of_loop c head body holds in
+          of_begun c head (turned one around head body (done_list one around body))
+          (turned other around head body (done_list other around body))
+          (of_turned c head body (done_list one around body) (done_list other around body) inner
+          (of_list c body inner))
       of_statement c (CaseStatement choice statements) holds =
           and_does c (of_value choice)
           (λ found. of_case c statements found (asks.of_choices c choice statements holds))
@@ -351,9 +348,8 @@ module _ (one other : Later) (around : Surroundings) {C : Type 0} (asks : Condit
 
     pub of_turn : (c : C) (turn : Turn) → asks.HoldsList c (body_of_turn turn)
         → F c (λ s. turn_of one turn around s) (λ s. turn_of other turn around s)
-    of_turn c (WhileTurn condition body) holds = of_tested c condition body holds (of_list c body holds)
-    of_turn c (IterateTurn head body) holds =
-        of_iterated c head body (done_list one around body) (done_list other around body) holds
+    of_turn c (LoopTurn head body) holds =
+        of_turned c head body (done_list one around body) (done_list other around body) holds
         (of_list c body holds)
 
     pub of_rest : (c : C) (list : TypedList) (rest : TypedStatements) → asks.HoldsList c list

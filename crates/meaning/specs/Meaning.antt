@@ -14,7 +14,7 @@ use Rattle.trees.specs.declared.declaration.ScalarType.{ScalarType}
 use Rattle.trees.specs.declared.declaration.ScalarType.TheVariants.{Address}
 use Rattle.typed_trees.specs.Charge.{charge_of}
 use Rattle.typed_trees.specs.Sizes.{size_of_object}
-use Rattle.typed_trees.specs.TypedTrees.{TypedExpression, NumberNode, ValueNode, LocationNode, ListNode, ConversionNode, AssignmentNode, UnaryNode, BinaryNode, CallNode, FunctionNode, ShiftNode, InputNode, TypedReference, PartOf, Subscript, NoSubscript, At, TypedTarget, StoredIn, SentTo, TypedArguments, NoArguments, MoreArguments, TypedIteration, TypedStatement, LabelStatement, NullStatement, AssignmentStatement, CallStatement, MoveStatement, ReturnStatement, HaltStatement, GotoStatement, IfStatement, DoStatement, WhileStatement, IterateStatement, CaseStatement, TypedElse, NoElse, ElseStatement, TypedStatements, NoStatements, MoreStatements, TypedList, ListOf, Home, BasedOn, InFrame, TypedObject, TypedProcedure, TypedModule}
+use Rattle.typed_trees.specs.TypedTrees.{TypedExpression, NumberNode, ValueNode, LocationNode, ListNode, ConversionNode, AssignmentNode, UnaryNode, BinaryNode, CallNode, FunctionNode, ShiftNode, InputNode, TypedReference, PartOf, Subscript, NoSubscript, At, TypedTarget, StoredIn, SentTo, TypedArguments, NoArguments, MoreArguments, TypedIteration, TypedHead, WhileHead, CountHead, TypedStatement, LabelStatement, NullStatement, AssignmentStatement, CallStatement, MoveStatement, ReturnStatement, HaltStatement, GotoStatement, IfStatement, DoStatement, LoopStatement, CaseStatement, TypedElse, NoElse, ElseStatement, TypedStatements, NoStatements, MoreStatements, TypedList, ListOf, Home, BasedOn, InFrame, TypedObject, TypedProcedure, TypedModule}
 use Rattle.layout.specs.Joined.{InProgram, procedure_meant}
 use Rattle.layout.specs.Placement.{ModulePlacement}
 use Rattle.meaning.specs.declared.reason.Reason.TheVariants.{Divide, Stack}
@@ -24,8 +24,7 @@ use Rattle.meaning.specs.Access.{Place, InMemory, InTheFrame, Surroundings, home
 
 -- a further turn of a loop, from its test on
 pub data Turn : Type 0 where
-  WhileTurn : (condition : TypedExpression) → (body : TypedList) → Turn
-  IterateTurn : (head : TypedIteration) → (body : TypedList) → Turn
+  LoopTurn : (head : TypedHead) → (body : TypedList) → Turn
 
 -- what is given from outside: the call of a procedure with the values of its arguments, which gives its
 -- value; a further turn of a loop; and the rest of a list after a jump to one of its
@@ -218,7 +217,9 @@ step_value later around (Some step) s = value later around step s
 -- loop ends if the sum exceeds the type of the variable.
 abbrev pub next_turn : Later → Surroundings → TypedIteration → TypedList → (sum : ℕ) → State → Outcome Flow
 next_turn later around head body sum s =
-    if nat_lt sum (values_of head.scalar) then later.again (IterateTurn head body) around s else Gave Onward s
+    if nat_lt sum (values_of head.scalar)
+    then later.again (LoopTurn (CountHead head) body) around s
+    else Gave Onward s
 
 abbrev pub stepped : Later → Surroundings → TypedIteration → TypedList → Flow → State → Outcome Flow
 stepped later around head body flow s =
@@ -241,6 +242,26 @@ iterated later around head body body_done s =
     (λ number u.
     if nat_lt last number then Gave Onward u
     else taking_one u (λ v. then_do (body_done v) (stepped later around head body))))
+
+-- A turn of a loop, from its test on: that of a DO WHILE is its condition, and it has no step. What the body does
+-- is given.
+abbrev pub turned :
+    Later → Surroundings → TypedHead → TypedList → (body_done : State → Outcome Flow) → State → Outcome Flow
+turned later around (WhileHead condition) body body_done s =
+    then_do (value later around condition s)
+    (λ number t.
+    if is_true number
+    then taking_one t
+    (λ u. then_do (body_done u) (after_turn later around (LoopTurn (WhileHead condition) body)))
+    else Gave Onward t)
+turned later around (CountHead head) body body_done s = iterated later around head body body_done s
+
+-- Before the turns of a loop, which are given, the variable of an iterative DO gets the first value.
+abbrev pub begun : Later → Surroundings → TypedHead → (turns : State → Outcome Flow) → State → Outcome Flow
+begun later around (WhileHead condition) turns s = turns s
+begun later around (CountHead head) turns s =
+    then_do (value later around head.first s)
+    (λ first t. then_do (write_variable around head (as_type head.scalar first) t) (λ _ u. turns u))
 
 abbrev mutual
   -- the meaning of a statement
@@ -268,18 +289,8 @@ abbrev mutual
       then_do (value later around condition s)
       (λ number t. if is_true number then done later around body t else done_else later around otherwise t)
   done later around (DoStatement body) s = done_list later around body s
-  done later around (WhileStatement condition body) s =
-      then_do (value later around condition s)
-      (λ number t.
-      if is_true number
-      then taking_one t
-      (λ u. then_do (done_list later around body u) (after_turn later around (WhileTurn condition body)))
-      else Gave Onward t)
-  done later around (IterateStatement head body) s =
-      then_do (value later around head.first s)
-      (λ first t.
-      then_do (write_variable around head (as_type head.scalar first) t)
-      (λ _ u. iterated later around head body (λ v. done_list later around body v) u))
+  done later around (LoopStatement head body) s =
+      begun later around head (turned later around head body (λ t. done_list later around body t)) s
   done later around (CaseStatement choice statements) s =
       then_do (value later around choice s) (λ number t. done_case later around statements number t)
 
@@ -307,9 +318,7 @@ abbrev mutual
 
 -- a turn of a loop, from its test on
 abbrev pub turn_of : Later → Turn → Surroundings → State → Outcome Flow
-turn_of later (WhileTurn condition body) around s = done later around (WhileStatement condition body) s
-turn_of later (IterateTurn head body) around s =
-    iterated later around head body (done_list later around body) s
+turn_of later (LoopTurn head body) around s = turned later around head body (done_list later around body) s
 
 -- the rest of a list, where a jump out of it may go on in the list
 abbrev pub rest_of : Later → TypedList → TypedStatements → Surroundings → State → Outcome Flow

@@ -40,8 +40,7 @@ module _ (typed : TypedModule) where
     of_branches = λ c condition body otherwise fits. (fits.1, fits.2);
     of_else = λ c statement fits. fits;
     of_group = λ c body fits. fits;
-    of_loop = λ c condition body fits. fits.1;
-    of_iteration = λ c head body fits. fits.1;
+    of_loop = λ c head body fits. fits.1;
     of_choices = λ c choice body fits. fits.1;
     of_choice = λ c first others fits. fits;
     of_each = λ c first others fits. fits;

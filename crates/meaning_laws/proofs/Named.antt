@@ -1,5 +1,6 @@
 -- What the statements and expressions of a soundly typed module name is there.
-use Rattle.meaning_laws.proofs.Prelude.{◌≡◌, List, [], ◌∷◌, Option, Some, None, slice_get, IfSome, enumerate_from, All-weaker, recursion_from_All, ScalarType, type_of, TypedExpression, NumberNode, ValueNode, LocationNode, ListNode, ConversionNode, AssignmentNode, UnaryNode, BinaryNode, CallNode, FunctionNode, ShiftNode, InputNode, TypedReference, PartOf, Subscript, NoSubscript, At, TypedTarget, StoredIn, SentTo, TypedArguments, NoArguments, MoreArguments, TypedIteration, TypedStatement, LabelStatement, NullStatement, AssignmentStatement, CallStatement, MoveStatement, ReturnStatement, HaltStatement, GotoStatement, IfStatement, DoStatement, WhileStatement, IterateStatement, CaseStatement, TypedElse, NoElse, ElseStatement, TypedStatements, NoStatements, MoreStatements, TypedList, ListOf, TypedModule, Within, WithinProcedure, WithinMain, IsReturned, TypesHold, TypesHoldIn, TypesHoldInArguments, TypesHoldInElse, TypesHoldInHead, TypesHoldInList, TypesHoldInProcedure, TypesHoldInReference, TypesHoldInStatements, TypesHoldInSubscript, TypesHoldInTarget, TypesHoldInTargets, IsSoundlyTyped, Surroundings, IsWhole, ReferenceIsMeant, at_place}
+use Rattle.meaning_laws.proofs.Prelude.{◌≡◌, List, [], ◌∷◌, Option, Some, None, slice_get, IfSome, enumerate_from, All-weaker, recursion_from_All, ScalarType, type_of, TypedExpression, NumberNode, ValueNode, LocationNode, ListNode, ConversionNode, AssignmentNode, UnaryNode, BinaryNode, CallNode, FunctionNode, ShiftNode, InputNode, TypedReference, PartOf, Subscript, NoSubscript, At, TypedTarget, StoredIn, SentTo, TypedArguments, NoArguments, MoreArguments, TypedHead, TypedStatement, LabelStatement, NullStatement, AssignmentStatement, CallStatement, MoveStatement, ReturnStatement, HaltStatement, GotoStatement, IfStatement, DoStatement, LoopStatement, CaseStatement, TypedElse, NoElse, ElseStatement, TypedStatements, NoStatements, MoreStatements, TypedList, ListOf, TypedModule, Within, WithinProcedure, WithinMain, IsReturned, TypesHold, TypesHoldIn, TypesHoldInArguments, TypesHoldInElse, TypesHoldInHead, TypesHoldInList, TypesHoldInProcedure, TypesHoldInReference, TypesHoldInStatements, TypesHoldInSubscript, TypesHoldInTarget, TypesHoldInTargets, IsSoundlyTyped, Surroundings, IsWhole, ReferenceIsMeant, at_place}
+use Rattle.typed_trees.specs.TypedTrees.{WhileHead, CountHead}
 use Rattle.meaning_laws.specs.internal.Named.{AreNamed, AreNamedIn, AreNamedInArguments, AreNamedInElse, AreNamedInHead, AreNamedInList, AreNamedInProcedure, AreNamedInReference, AreNamedInStatements, AreNamedInSubscript, AreNamedInTarget, AreNamedInTargets, NamesAreMeant}
 use Rattle.meaning_laws.proofs.Calls.{call_is_meant}
 use Rattle.meaning_laws.proofs.Names.{list_is_placed}
@@ -71,9 +72,10 @@ module _ (around : Surroundings) (whole : IsWhole around.program) (typed : Typed
   in_some None fits = tt
   in_some (Some expression) fits = in_expression expression fits
 
-  in_head : (head : TypedIteration) → TypesHoldInHead typed within head
+  in_head : (head : TypedHead) → TypesHoldInHead typed within head
       → AreNamedInHead around typed within head
-  in_head head (counts, first, last, step) = (
+  in_head (WhileHead condition) fits = in_expression condition fits
+  in_head (CountHead head) (counts, first, last, step) = (
     counter_is_meant around.program whole around.number_of_module typed within here head counts,
     in_expression head.first first,
     in_expression head.last last,
@@ -118,9 +120,7 @@ module _ (around : Surroundings) (whole : IsWhole around.program) (typed : Typed
         in_else otherwise second,
       )
       in_statement (DoStatement body) fits = in_list body fits
-      in_statement (WhileStatement condition body) (fits, rest) =
-          (in_expression around whole typed within here condition fits, in_list body rest)
-      in_statement (IterateStatement head body) (fits, rest) =
+      in_statement (LoopStatement head body) (fits, rest) =
           (in_head around whole typed within here head fits, in_list body rest)
       in_statement (CaseStatement choice statements) (fits, rest) =
           (in_expression around whole typed within here choice fits, in_statements statements rest)

@@ -1,6 +1,6 @@
 -- In each part of a text the PUBLIC objects that are declared so far have a place, and INITIAL and DATA
 -- locate objects that have one or are of another module.
-use Rattle.meaning_laws.proofs.Prelude.{ℕ, ◌+◌, List, [], ◌∷◌, ◌++◌, length, nat_le, subst, sym, All, not, All-append, All-cons, All-nil, All-weaker, Identifier, DeclarationTree, DeclarationTrees, DeclareTree, ElementTree, ElseTree, ItemElement, ItemTree, LiterallyElement, ModuleTree, MoreDeclarations, NoDeclarations, ProcedureTree, StatementKindTree, StatementTree, StatementTrees, is_declared_again, into_list, labels_of, declared_by, FRAME_LIMIT, OBJECT_LIMIT, TypedObject, TypedStatements, DeclaredTwice, ExternalContents, TooLarge, Block, Progress, is_external, Checked, require, TypedItem, declare_element, declare_elements, declare_item, declare_names, place_of_item, object_named, size_of_item, typed_item, with_objects, with_typed_object, arguments, check_body, own_block, parameter_objects, Known, place_of_word, declare_labels, labels_before, list_of, with_here, without_label, alone, at_the_beginning, cases, declaration, declarations, else_part, inner_block, kind, labelled, module_block, statements, typing_of, values_in, Gives, gives_after, gives_ok, in_turn, then_more, keeps_append, opens_procedure, Same, assignment_same, call_same, goto_same, iteration_same, return_same, value_same, ArePlaceable, IsPlaceable, LiesIfPublic, LocatesObjects}
+use Rattle.meaning_laws.proofs.Prelude.{ℕ, ◌+◌, List, [], ◌∷◌, ◌++◌, length, nat_le, subst, sym, All, not, All-append, All-cons, All-nil, All-weaker, Identifier, DeclarationTree, DeclarationTrees, DeclareTree, ElementTree, ElseTree, ItemElement, ItemTree, LiterallyElement, ModuleTree, MoreDeclarations, NoDeclarations, ProcedureTree, StatementKindTree, StatementTree, StatementTrees, is_declared_again, into_list, labels_of, declared_by, FRAME_LIMIT, OBJECT_LIMIT, TypedObject, TypedStatements, DeclaredTwice, ExternalContents, TooLarge, Block, Progress, is_external, Checked, require, TypedItem, declare_element, declare_elements, declare_item, declare_names, place_of_item, object_named, size_of_item, typed_item, with_objects, with_typed_object, arguments, check_body, own_block, parameter_objects, Known, place_of_word, declare_labels, labels_before, list_of, with_here, without_label, alone, at_the_beginning, cases, declaration, declarations, else_part, inner_block, kind, labelled, module_block, statements, typing_of, values_in, Gives, gives_after, gives_ok, in_turn, then_more, keeps_append, opens_procedure, Same, assignment_same, call_same, goto_same, head_same, return_same, value_same, ArePlaceable, IsPlaceable, LiesIfPublic, LocatesObjects}
 use Rattle.trees.specs.Trees as trees
 use Rattle.typing.specs.Modules.{entered}
 use Rattle.typing.proofs.Tables.{Keeps}
@@ -132,16 +132,10 @@ mutual
       (list_lies body (λ label. statements (inner_block block) body label) opened one
       (λ label inside all. statements_lie (inner_block block) body label inside all)) λ done two.
       gives_ok two
-  kind_lies block (trees.WhileStatement place condition body) progress lie =
-      in_turn (from_same progress lie (value_same condition progress)) λ tested one.
+  kind_lies block (trees.LoopStatement place head body) progress lie =
+      in_turn (from_same progress lie (head_same head progress)) λ headed one.
       in_turn
-      (list_lies body (λ label. statements block body label) tested.1 one
-      (λ label inside all. statements_lie block body label inside all)) λ done two.
-      gives_ok two
-  kind_lies block (trees.IterateStatement place head body) progress lie =
-      in_turn (from_same progress lie (iteration_same head progress)) λ counted one.
-      in_turn
-      (list_lies body (λ label. statements block body label) counted.1 one
+      (list_lies body (λ label. statements block body label) headed.1 one
       (λ label inside all. statements_lie block body label inside all)) λ done two.
       gives_ok two
   kind_lies block (trees.CaseStatement place choice body) progress lie =

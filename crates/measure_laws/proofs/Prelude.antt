@@ -4,7 +4,7 @@ pub use Rattle.std.specs.{List.{AllByRecursion, cons_option, enumerate_from}, Op
 pub use Rattle.trees.proofs.Lists.{holds_for_item}
 pub use Rattle.trees.specs.{declared.declaration.ScalarType.{ScalarType, TheVariants.{Address, Byte}}, declared.expression.BinaryOperator.{BinaryOperator}, declared.expression.UnaryOperator.{UnaryOperator, TheVariants.{Negate, Not}}, internal.Functions.{byte_taken}}
 pub use Rattle.typed_trees.proofs.Counted.{types_count}
-pub use Rattle.typed_trees.specs.{Charge.{count_of_arguments, height_of, height_of_arguments, height_of_else, height_of_list, height_of_optional, height_of_reference, height_of_statement, height_of_statements, height_of_subscript, height_of_target, height_of_targets}, ExpressionTypes.{type_of}, Frames.{AreParameters, FramesFit, HasParameters, ParametersFit, home_of_parameters}, Jumps.{BodyIsSound, IsAmongLabels, IsNoLabel, JumpsAreSound, JumpsStay, JumpsStayInElse, JumpsStayInList, JumpsStayInStatements, LabelsOf, LabelsStand, ListStands, ListsStand, ListsStandInCases, ListsStandInElse, ListsStandInStatements, labels_of_list}, Sizes.{size_of_object}, Storable.{IsStorable, bytes_filled, constant_number, numbered_constant, object_in, size_of_value}, TypedTrees.{AssignmentStatement, BasedOn, CallStatement, CaseStatement, DoStatement, Elsewhere, GotoStatement, HaltStatement, Home as TypedHome, IfStatement, InConstants, InData, InFrame, IterateStatement, LabelStatement, MoreStatements, MoveStatement, NoStatements, NoSubscript, Nowhere, NullStatement, PartOf, Placed, ReturnStatement, SentTo, StoredIn, Subscript as TypedSubscript, TypedArguments, TypedElse, TypedExpression, TypedIteration, TypedList, TypedModule, TypedObject, TypedProcedure, TypedReference, TypedStatement, TypedStatements, TypedTarget, WhileStatement}, Weight.{constant_bytes, size_of_constant, weight_of_arguments, weight_of_else, weight_of_expression, weight_of_iteration, weight_of_list, weight_of_optional, weight_of_reference, weight_of_statement, weight_of_statements, weight_of_storing, weight_of_subscript, weight_of_target}, WellTyped.{IsReturned, IsWellTyped, Takes, TypesHold, TypesHoldIn, TypesHoldInArguments, TypesHoldInElse, TypesHoldInList, TypesHoldInProcedure, TypesHoldInReference, TypesHoldInStatements, TypesHoldInSubscript, TypesHoldInTarget, TypesHoldInTargets, Within, WithinMain, WithinProcedure, types_of}, declared.limits.TheConstants.{FRAME_LIMIT}, declared.parts.ConstantItem.{ConstantItem, TheVariants.{ConstantList, ConstantObject}}, declared.parts.InitialValue.{InitialValue, TheVariants.{ByteValue, LocationValue, WordValue}}, declared.parts.ShiftFunction.{ShiftFunction, TheVariants.{RotateLeft, RotateRight, ShiftLeft, ShiftRight}}}
+pub use Rattle.typed_trees.specs.{Charge.{count_of_arguments, height_of, height_of_arguments, height_of_else, height_of_list, height_of_optional, height_of_reference, height_of_statement, height_of_statements, height_of_subscript, height_of_target, height_of_targets}, ExpressionTypes.{type_of}, Frames.{AreParameters, FramesFit, HasParameters, ParametersFit, home_of_parameters}, Jumps.{BodyIsSound, IsAmongLabels, IsNoLabel, JumpsAreSound, JumpsStay, JumpsStayInElse, JumpsStayInList, JumpsStayInStatements, LabelsOf, LabelsStand, ListStands, ListsStand, ListsStandInCases, ListsStandInElse, ListsStandInStatements, labels_of_list}, Sizes.{size_of_object}, Storable.{IsStorable, bytes_filled, constant_number, numbered_constant, object_in, size_of_value}, TypedTrees.{AssignmentStatement, BasedOn, CallStatement, CaseStatement, DoStatement, Elsewhere, GotoStatement, HaltStatement, Home as TypedHome, IfStatement, InConstants, InData, InFrame, LabelStatement, MoreStatements, MoveStatement, NoStatements, NoSubscript, Nowhere, NullStatement, PartOf, Placed, ReturnStatement, SentTo, StoredIn, Subscript as TypedSubscript, TypedArguments, TypedElse, TypedExpression, TypedIteration, TypedList, TypedModule, TypedObject, TypedProcedure, TypedReference, TypedStatement, TypedStatements, TypedTarget}, Weight.{constant_bytes, size_of_constant, weight_of_arguments, weight_of_else, weight_of_expression, weight_of_iteration, weight_of_list, weight_of_optional, weight_of_reference, weight_of_statement, weight_of_statements, weight_of_storing, weight_of_subscript, weight_of_target}, WellTyped.{IsReturned, IsWellTyped, Takes, TypesHold, TypesHoldIn, TypesHoldInArguments, TypesHoldInElse, TypesHoldInList, TypesHoldInProcedure, TypesHoldInReference, TypesHoldInStatements, TypesHoldInSubscript, TypesHoldInTarget, TypesHoldInTargets, Within, WithinMain, WithinProcedure, types_of}, declared.limits.TheConstants.{FRAME_LIMIT}, declared.parts.ConstantItem.{ConstantItem, TheVariants.{ConstantList, ConstantObject}}, declared.parts.InitialValue.{InitialValue, TheVariants.{ByteValue, LocationValue, WordValue}}, declared.parts.ShiftFunction.{ShiftFunction, TheVariants.{RotateLeft, RotateRight, ShiftLeft, ShiftRight}}}
 unfoldable pub use Rattle.typed_trees.specs.{Charge.{charge_of}, Weight.{code_bound, weight_of}}
 pub use Rattle.layout.specs.Storage.{Storage, bytes_in_constants, bytes_in_data, data_bytes}
 unfoldable pub use Rattle.layout.specs.Storage.{storage_of}
@@ -14,7 +14,7 @@ pub use Rattle.asm8080.proofs.{CodeInParts.{size_in_parts}, Segments.{places_len
 pub use Rattle.asm8080.specs.{Assembled.{set_bytes}, Items.{instruction_with, size_of, size_of_items}, Standing.{size_of_instruction}, declared.item.Item.{Item, TheVariants.{Plain, WithWord}}, declared.item.WordForm.{WordForm, TheVariants.{Jump, JumpWhere, LoadA, LoadHl, LoadPair, StoreA, StoreHl}}}
 pub use Rattle.runtime8080.specs.{internal.Routines.{size_of_routine}, declared.routine.Routine.{Routine, TheVariants.{Move}}}
 pub use Rattle.treecode.proofs.LabelNumbers.{at_or_after}
-pub use Rattle.treecode.specs.{internal.Contents.{constant_object, constants_from, content_of, size_of_value as bytes_of_value, static_object, variables_from, with_constant, with_gap, with_gap_if_any, with_object}, internal.Homes.{location_after, place_after}, internal.Lowered.{AreArguments, AreMore, AreMoreStatements, AreNoStatements, AreNone, AreStatements, AreTargets, HasBody, IsAbsent, IsAssignment, IsBinary, IsCall, IsCallOf, IsCase, IsConstantList, IsConversion, IsDo, IsElse, IsEmbedded, IsExpression, IsExpressionIn, IsForm, IsFunction, IsGoto, IsHalt, IsIf, IsIndex, IsInput, IsIterate, IsIteration, IsLabel, IsList, IsListOf, IsLocation, IsLowered, IsMove, IsNoElse, IsNoValue, IsNode, IsNull, IsNumber, IsOptional, IsPart, IsProcedure, IsReference, IsReturn, IsSent, IsShift, IsSomeElse, IsSomeValue, IsStatement, IsStatementForm, IsStatementNode, IsStored, IsSubscript, IsTarget, IsUnary, IsValue, IsWhile, MoreTargets, NoTargets, labels_numbered_in_list}, internal.Nodes.{Nodes, item_of, nodes_of}, internal.Queries.{argument, home, inside, item, place_number, source as source_of, statement, target as target_at}, internal.Traits.{no_traits, traits_at}, declared.expression.Expression.{Expression}, declared.expression.ExpressionForm.{ExpressionForm, TheVariants.{Binary}}, declared.expression.ExpressionNumber.{ExpressionNumber}, declared.lists.Range.{Range}, declared.module.Content.{Content, TheVariants.{Gap, Word}}, declared.module.TreeModule.{TreeModule}, declared.place.Home.{Home}, declared.place.Location.{Location, TheVariants.{Frame, Static}}, declared.place.Place.{Place, TheVariants.{Data, External, Number}}, declared.procedure.Parameter.{Parameter}, declared.procedure.ProcedureKind.{ProcedureKind}, declared.procedure.TreeProcedure.{TreeProcedure}, declared.reference.Reference.{Reference}, declared.reference.Subscript.{Subscript as IndexNode, Subscript}, declared.reference.Target.{Target, TheVariants.{Sent, Stored}}, declared.statement.Iteration.{Iteration}, declared.statement.Statement.{Statement as TreeStatement}, declared.statement.StatementNumber.{StatementNumber}}
+pub use Rattle.treecode.specs.{internal.Contents.{constant_object, constants_from, content_of, size_of_value as bytes_of_value, static_object, variables_from, with_constant, with_gap, with_gap_if_any, with_object}, internal.Homes.{location_after, place_after}, internal.Lowered.{AreArguments, AreMore, AreMoreStatements, AreNoStatements, AreNone, AreStatements, AreTargets, HasBody, IsAbsent, IsAssignment, IsBinary, IsCall, IsCallOf, IsCase, IsConstantList, IsConversion, IsDo, IsElse, IsEmbedded, IsExpression, IsExpressionIn, IsForm, IsFunction, IsGoto, IsHalt, IsIf, IsIndex, IsInput, IsIteration, IsLabel, IsList, IsListOf, IsLocation, IsLowered, IsMove, IsNoElse, IsNoValue, IsNode, IsNull, IsNumber, IsOptional, IsPart, IsProcedure, IsReference, IsReturn, IsSent, IsShift, IsSomeElse, IsSomeValue, IsStatement, IsStatementForm, IsStatementNode, IsStored, IsSubscript, IsTarget, IsUnary, IsValue, MoreTargets, NoTargets, labels_numbered_in_list}, internal.Nodes.{Nodes, item_of, nodes_of}, internal.Queries.{argument, home, inside, item, place_number, source as source_of, statement, target as target_at}, internal.Traits.{no_traits, traits_at}, declared.expression.Expression.{Expression}, declared.expression.ExpressionForm.{ExpressionForm, TheVariants.{Binary}}, declared.expression.ExpressionNumber.{ExpressionNumber}, declared.lists.Range.{Range}, declared.module.Content.{Content, TheVariants.{Gap, Word}}, declared.module.TreeModule.{TreeModule}, declared.place.Home.{Home}, declared.place.Location.{Location, TheVariants.{Frame, Static}}, declared.place.Place.{Place, TheVariants.{Data, External, Number}}, declared.procedure.Parameter.{Parameter}, declared.procedure.ProcedureKind.{ProcedureKind}, declared.procedure.TreeProcedure.{TreeProcedure}, declared.reference.Reference.{Reference}, declared.reference.Subscript.{Subscript as IndexNode, Subscript}, declared.reference.Target.{Target, TheVariants.{Sent, Stored}}, declared.statement.Iteration.{Iteration}, declared.statement.Statement.{Statement as TreeStatement}, declared.statement.StatementNumber.{StatementNumber}}
 unfoldable pub use Rattle.treecode.specs.internal.Contents.{constants_of, variables_of}
 pub use Rattle.treecode_laws.proofs.{Contents.{same_sizes}, Slots.{constant_small, stored}}
 pub use Rattle.frames.proofs.{Frames.{has_frame, parameter_count}, Parameters.{frame_fits, has_parameters, numbered_at}}

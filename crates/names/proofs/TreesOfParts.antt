@@ -1,9 +1,9 @@
 -- The trees of statements and of procedures, from the parts of the code's trees.
-use Rattle.names.proofs.Prelude.{◌≡◌, arith, Place, Block, Block', blocks, DoCase, DoCase', cases, DoWhile, DoWhile', whiles, IfThen, IfThen', ifs, IterativeDo, IterativeDo', iterations, Procedure, Procedure', procedures, kind_tree, declaration_tree, statement_rows_are, declaration_rows_are}
+use Rattle.names.proofs.Prelude.{◌≡◌, arith, Place, Block, Block', blocks, DoCase, DoCase', cases, IfThen, IfThen', ifs, Loop, Loop', loops, Procedure, Procedure', procedures, kind_tree, declaration_tree, statement_rows_are, declaration_rows_are}
 use Rattle.trees.specs.declared.statement.Declaration.TheVariants as declarations
 use Rattle.trees.specs.declared.statement.IfThen.{None', Some'}
 use Rattle.trees.specs.declared.statement.StatementKind.TheVariants as kinds
-use Rattle.names.specs.internal.TreesOfParts.{if_tree, do_tree, while_tree, iterate_tree, case_tree, procedure_parts}
+use Rattle.names.specs.internal.TreesOfParts.{if_tree, do_tree, loop_tree, case_tree, procedure_parts}
 
 pub if_tree_is : (p : _) (branch : IfThen) → kind_tree (kinds.If' p branch) ≡ if_tree branch
 if_tree_is p (IfThen' place condition labels kind None') = grind (arith, ifs)
@@ -14,11 +14,8 @@ pub do_tree_is : (place : Place) (p : _) (block : Block)
 do_tree_is place p (Block' n declared m body) =
     grind (arith, blocks, statement_rows_are, declaration_rows_are)
 
-pub while_tree_is : (p : _) (turns : DoWhile) → kind_tree (kinds.While' p turns) ≡ while_tree turns
-while_tree_is p (DoWhile' place condition n body) = grind (arith, whiles, statement_rows_are)
-
-pub iterate_tree_is : (p : _) (turns : IterativeDo) → kind_tree (kinds.Iterate' p turns) ≡ iterate_tree turns
-iterate_tree_is p (IterativeDo' place iteration n body) = grind (arith, iterations, statement_rows_are)
+pub loop_tree_is : (p : _) (turns : Loop) → kind_tree (kinds.Loop' p turns) ≡ loop_tree turns
+loop_tree_is p (Loop' place head n body) = grind (arith, loops, statement_rows_are)
 
 pub case_tree_is : (p : _) (choice : DoCase) → kind_tree (kinds.Case' p choice) ≡ case_tree choice
 case_tree_is p (DoCase' place choice n body) = grind (arith, cases, statement_rows_are)

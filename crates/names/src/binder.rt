@@ -4,24 +4,24 @@ ghost use Rattle.std.specs.Prelude.{◌≡◌, ◌∷◌, ◌++◌, map, Ok};
 ghost use Rattle.std.specs.List.{flat_map};
 ghost use Rattle.std.specs.Option.{option_map};
 ghost use Rattle.trees.specs.Trees.{ItemElement};
-ghost use Rattle.trees.specs.internal.Views.{argument_trees, block_declarations, block_statements, declaration_tree, declaration_trees, element_tree, else_tree, expression_tree, heading_tree, iteration_tree, item_tree, kind_tree, statement_tree, statement_trees, subject_tree, target_trees};
+ghost use Rattle.trees.specs.internal.Views.{argument_trees, block_declarations, block_statements, declaration_tree, declaration_trees, element_tree, else_tree, expression_tree, head_tree, heading_tree, item_tree, kind_tree, statement_tree, statement_trees, subject_tree, target_trees};
 ghost use Rattle.names.specs.Environment.{into_block, into_body, into_list, out_of_block, out_of_body, out_of_list};
 ghost use Rattle.names.specs.internal.Events.{in_body, see_else, declares_definition, declares_label, declares_object, declares_parameter, declares_procedure, in_list, jumps_to, moves, see_all, see_block, see_cases, see_declaration, see_declarations, see_element, see_kind, see_statement, see_statements, uses_of};
 ghost use Rattle.names.specs.DeclaredNames.{declared_by, labels_of};
-ghost use Rattle.names.specs.internal.Uses.{names_in_arguments, names_in_expression, names_in_iteration, names_in_optional, names_in_reference};
-ghost use Rattle.names.specs.internal.TreesOfParts.{see_body, case_tree, do_tree, if_tree, iterate_tree, procedure_parts, while_tree};
+ghost use Rattle.names.specs.internal.Uses.{names_in_arguments, names_in_expression, names_in_head, names_in_optional, names_in_reference};
+ghost use Rattle.names.specs.internal.TreesOfParts.{see_body, case_tree, do_tree, if_tree, loop_tree, procedure_parts};
 ghost use Rattle.names.specs.internal.BindingWalks.{Does, at_start, gives};
 
 use crate::uses::{
-    bind_assignment, bind_call, bind_expression, bind_item, bind_iteration, bind_optional,
+    bind_assignment, bind_call, bind_expression, bind_head, bind_item, bind_optional,
 };
 use crate::{Binding, Fault, Scopes};
 use failure::Failure;
 use std::alloc::Global;
 use std::marker::Model;
 use trees::{
-    Assignment, Block, Declaration, DoCase, DoWhile, Element, Expression, Identifier, IfThen, Item,
-    Iteration, IterativeDo, Place, Procedure, Selector, Statement, StatementKind, Subject,
+    Assignment, Block, Declaration, DoCase, Element, Expression, Identifier, IfThen, Item, Loop,
+    LoopHead, Place, Procedure, Selector, Statement, StatementKind, Subject,
 };
 
 /// Goes through a module from its start: the scopes at a place, and the bindings of the uses before it.
@@ -190,12 +190,11 @@ impl Binder {
         bind_assignment(&self.scopes, assignment, &mut self.bindings)
     }
 
-    // Binds the names in the head of an iterative DO.
-    fn iteration(&mut self, iteration: &Iteration) -> Result<(), Failure<Fault>>
-        ensures { Does result self.new
-            (gives (uses_of (names_in_iteration (iteration_tree iteration.now))) self.old) }
+    // Binds the names in the head of a loop.
+    fn head(&mut self, head: &LoopHead) -> Result<(), Failure<Fault>>
+        ensures { Does result self.new (gives (uses_of (names_in_head (head_tree head.now))) self.old) }
     {
-        bind_iteration(&self.scopes, iteration, &mut self.bindings)
+        bind_head(&self.scopes, head, &mut self.bindings)
     }
 
     // Binds the name after GOTO.
@@ -278,8 +277,7 @@ impl Binder {
             StatementKind::Goto { label, .. } => self.jump(**label),
             StatementKind::If(branch) => self.conditional(branch),
             StatementKind::Do { place, block } => self.simple_do(*place, block),
-            StatementKind::While(turns) => self.do_while(turns),
-            StatementKind::Iterate(turns) => self.do_iterate(turns),
+            StatementKind::Loop(turns) => self.do_loop(turns),
             StatementKind::Case(choice) => self.do_case(choice),
         }
     }
@@ -316,21 +314,12 @@ impl Binder {
         Ok(())
     }
 
-    // Goes through a DO WHILE.
+    // Goes through a DO WHILE or an iterative DO.
     #[cycle(walk)]
-    fn do_while(&mut self, turns: &DoWhile) -> Result<(), Failure<Fault>>
-        ensures { Does result self.new (gives (see_kind (while_tree turns.now)) self.old) }
+    fn do_loop(&mut self, turns: &Loop) -> Result<(), Failure<Fault>>
+        ensures { Does result self.new (gives (see_kind (loop_tree turns.now)) self.old) }
     {
-        self.expression(&turns.condition)?;
-        self.list(turns.body.as_slice())
-    }
-
-    // Goes through an iterative DO.
-    #[cycle(walk)]
-    fn do_iterate(&mut self, turns: &IterativeDo) -> Result<(), Failure<Fault>>
-        ensures { Does result self.new (gives (see_kind (iterate_tree turns.now)) self.old) }
-    {
-        self.iteration(&turns.iteration)?;
+        self.head(&turns.head)?;
         self.list(turns.body.as_slice())
     }
 

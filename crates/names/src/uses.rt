@@ -1,17 +1,17 @@
 //! Uses of names in expressions.
 
-ghost use Rattle.trees.specs.internal.Views.{argument_trees, expression_tree, item_tree, iteration_tree, reference_tree, restricted_tree, subject_tree, target_trees};
+ghost use Rattle.trees.specs.internal.Views.{argument_trees, expression_tree, head_tree, item_tree, iteration_tree, reference_tree, restricted_tree, subject_tree, target_trees};
 ghost use Rattle.std.specs.Prelude.{[], ◌∷◌, ◌++◌, map};
 ghost use Rattle.std.specs.List.{flat_map};
 ghost use Rattle.std.specs.Option.{option_map};
-ghost use Rattle.names.specs.internal.Uses.{names_in_arguments, names_in_bounds, names_in_expression, names_in_item, names_in_iteration, names_in_optional, names_in_reference, names_in_restricted, names_in_subject};
+ghost use Rattle.names.specs.internal.Uses.{names_in_arguments, names_in_bounds, names_in_expression, names_in_head, names_in_item, names_in_iteration, names_in_optional, names_in_reference, names_in_restricted, names_in_subject};
 ghost use Rattle.names.specs.internal.BindingWalks.{Does, bound_at};
 
 use crate::{Binding, Fault, Scopes};
 use failure::Failure;
 use trees::{
-    Assignment, Expression, Identifier, Item, Iteration, Origin, Reference, Restricted, Selector,
-    Subject,
+    Assignment, Expression, Identifier, Item, Iteration, LoopHead, Origin, Reference, Restricted,
+    Selector, Subject,
 };
 
 /// Binds a name.
@@ -187,7 +187,7 @@ fn bind_bounds(
 }
 
 /// Binds the names in the head of an iterative DO.
-pub(crate) fn bind_iteration(
+fn bind_iteration(
     scopes: &Scopes,
     iteration: &Iteration,
     bindings: &mut Vec<Binding>,
@@ -197,6 +197,21 @@ pub(crate) fn bind_iteration(
 {
     bind_name(scopes, iteration.variable, bindings)?;
     bind_bounds(scopes, iteration, bindings)
+}
+
+/// Binds the names in the head of a loop.
+pub(crate) fn bind_head(
+    scopes: &Scopes,
+    head: &LoopHead,
+    bindings: &mut Vec<Binding>,
+) -> Result<(), Failure<Fault>>
+    ensures { Does result bindings.new.items
+        (bound_at scopes.now (names_in_head (head_tree head.now)) bindings.old.items) }
+{
+    match head {
+        LoopHead::While(condition) => bind_expression(scopes, condition, bindings),
+        LoopHead::Count(iteration) => bind_iteration(scopes, iteration, bindings),
+    }
 }
 
 /// Binds the name in a restricted expression, if there is one.

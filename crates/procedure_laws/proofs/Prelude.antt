@@ -6,19 +6,19 @@ pub use Rattle.mem80.specs.{Memory.{IsMemory, byte_at, word_at}, declared.memory
 pub use Rattle.ports.specs.declared.event.Event.{Event}
 pub use Rattle.trees.proofs.Lists.{holds_for_item}
 pub use Rattle.trees.specs.{declared.declaration.ScalarType.{ScalarType, TheVariants.{Address, Byte}}}
-pub use Rattle.typed_trees.specs.{Charge.{height_of_list}, Frames.{AreParameters, FramesFit, HasParameters, IsParameter, ParametersFit, home_of_parameters, is_in_frame}, Jumps.{BodyIsSound, IsAmongLabels, IsClosed, IsNoLabel, JumpsAreSound, JumpsStay, JumpsStayInElse, JumpsStayInList, JumpsStayInStatements, LabelsOf, LabelsStand, ListStands, ListsStand, ListsStandInCases, ListsStandInElse, ListsStandInStatements, labels_in, labels_in_else, labels_in_list, labels_in_module, labels_in_procedure, labels_in_statements, labels_of_list}, ObjectParts.{IsScalar}, Sizes.{size_of_object, size_of_scalar}, TypedTrees.{AssignmentStatement, BasedOn, CallStatement, CaseStatement, DoStatement, ElseStatement, Elsewhere, GotoStatement, HaltStatement, Home, IfStatement, InConstants, InData, InFrame, IterateStatement, LabelStatement, ListOf, MoreStatements, MoveStatement, NoElse, NoStatements, Nowhere, NullStatement, Placed, ReturnStatement, TypedElse, TypedExpression, TypedIteration, TypedList, TypedModule, TypedObject, TypedProcedure, TypedStatement, TypedStatements, WhileStatement}, WellTyped.{IsReturned, TypesHold, TypesHoldIn, TypesHoldInElse, TypesHoldInList, TypesHoldInProcedure, TypesHoldInStatements, Within, WithinMain, WithinProcedure}, declared.parts.Visibility.{Visibility}}
+pub use Rattle.typed_trees.specs.{Charge.{height_of_list}, Frames.{AreParameters, FramesFit, HasParameters, IsParameter, ParametersFit, home_of_parameters, is_in_frame}, Jumps.{BodyIsSound, IsAmongLabels, IsClosed, IsNoLabel, JumpsAreSound, JumpsStay, JumpsStayInElse, JumpsStayInList, JumpsStayInStatements, LabelsOf, LabelsStand, ListStands, ListsStand, ListsStandInCases, ListsStandInElse, ListsStandInStatements, labels_in, labels_in_else, labels_in_list, labels_in_module, labels_in_procedure, labels_in_statements, labels_of_list}, ObjectParts.{IsScalar}, Sizes.{size_of_object, size_of_scalar}, TypedTrees.{AssignmentStatement, BasedOn, CallStatement, CaseStatement, DoStatement, ElseStatement, Elsewhere, GotoStatement, HaltStatement, Home, IfStatement, InConstants, InData, InFrame, LabelStatement, ListOf, LoopStatement, MoreStatements, MoveStatement, NoElse, NoStatements, Nowhere, NullStatement, Placed, ReturnStatement, TypedElse, TypedExpression, TypedHead, TypedIteration, TypedList, TypedModule, TypedObject, TypedProcedure, TypedStatement, TypedStatements}, WellTyped.{IsReturned, TypesHold, TypesHoldIn, TypesHoldInElse, TypesHoldInHead, TypesHoldInList, TypesHoldInProcedure, TypesHoldInStatements, Within, WithinMain, WithinProcedure}, declared.parts.Visibility.{Visibility}}
 unfoldable pub use Rattle.typed_trees.specs.Charge.{charge_of}
 pub use Rattle.layout.proofs.Visibilities.{not_external}
 pub use Rattle.layout.specs.{Joined.{DeclaredProcedure, InProgram, agree, is_main, is_public_procedure, procedure_meant}, Sound.{TakeBytes}, Storage.{Storage}}
 pub use Rattle.meaning.proofs.{DroppedLists.{dropped_lists}, Staying.{jumps_dropped, no_jump, outer_label}}
-pub use Rattle.meaning.specs.{Access.{InMemory, InTheFrame, Place as SourcePlace, Surroundings, frame_bytes, home_in, home_of, is_constant, is_declared, place_in, place_of, write_scalar}, Meaning.{IterateTurn, Later, Turn, WhileTurn, after_turn, based_place, called, called_for, callee_in, caught_in, charged, done, done_all, done_case, done_else, done_list, dropped, entered, frame_of, going_on, is_frame_of, iterated, later_by, moved, parameters_set, procedure_at, read_variable, rest_from, rest_of, returned, step_value, stepped, stored_in_each, turn_of, value, value_of_flow, values, write_variable}, Outcomes.{Ended, Flow, Gave, Jumped, More, Onward, Outcome, Outside, Program, Returned, State as SourceState, Stopped, taking_one, then_do}, Run.{main_done, run_of}, Values.{as_type, is_true, values_of}, declared.reason.Reason.{Reason, TheVariants.{Byte as UndeclaredByte, Constant, Stack}}, internal.Kept.{body_of_turn}}
+pub use Rattle.meaning.specs.{Access.{InMemory, InTheFrame, Place as SourcePlace, Surroundings, frame_bytes, home_in, home_of, is_constant, is_declared, place_in, place_of, write_scalar}, Meaning.{Later, LoopTurn, after_turn, based_place, begun as begun_loop, called, called_for, callee_in, caught_in, charged, done, done_all, done_case, done_else, done_list, dropped, entered, frame_of, going_on, is_frame_of, iterated, later_by, moved, parameters_set, procedure_at, read_variable, rest_from, rest_of, returned, step_value, stepped, stored_in_each, turn_of, turned as turned_loop, value, value_of_flow, values, write_variable}, Outcomes.{Ended, Flow, Gave, Jumped, More, Onward, Outcome, Outside, Program, Returned, State as SourceState, Stopped, taking_one, then_do}, Run.{main_done, run_of}, Values.{as_type, is_true, values_of}, declared.reason.Reason.{Reason, TheVariants.{Byte as UndeclaredByte, Constant, Stack}}}
 pub use Rattle.object_modules.specs.declared.segment.Target.TheVariants.{External as ExternalTarget, InSegment}
 pub use Rattle.isa8080.proofs.Words.{word_of_two, wrapped_next, wrapped_small}
 pub use Rattle.isa8080.specs.{Act.{act}, Arithmetic.{decrement_of, operate}, Flags.{flag_byte}, State.{HoldBytes, Registers, State, high_byte, holds as holds_of, low_byte, two_less, with_popped, word, wrap}, Step.{running}, declared.instr.Condition.{Condition, TheVariants.{NotZero}}, declared.instr.Instr.{Instr, TheVariants.{Call, Dad, Dcr, Hlt, Inx, Lxi, Mvi, Pchl, Pop, Push, Ret, Sphl, Xchg, Xthl}}, declared.instr.Operand.TheVariants.{Of}, declared.instr.Operation.TheVariants.{ExclusiveOr}, declared.instr.Pair.TheVariants.{De, Hl, Sp}, declared.instr.Register.TheVariants.{B}, declared.instr.StackPair.{StackPair, TheVariants.{Psw, StackBc, StackDe, StackHl}}, declared.registers.Status.TheVariants.{Halted, Running}}
 unfoldable pub use Rattle.isa8080.specs.Step.{step_of}
 pub use Rattle.asm8080.proofs.{Calls.{IsPushed, one_below, pushed, pushed_is_memory, pushed_is_pushed, pushed_keeps, two_below}, Kept.{byte_kept, byte_put}, Loops.{counted_out, counts_on, one_less_is}, Stack.{pop_does, push_does}}
 pub use Rattle.asm8080.specs.{Items.{instruction_with, word_of}, Standing.{AgreesIn, Keeps, size_of_instruction}, declared.item.Item.{Item}, declared.item.Reference.{Reference, TheVariants.{AtLabel, AtTarget}}, declared.item.WordForm.{WordForm, TheVariants.{CallTo, JumpWhere, LoadPair, StoreA, StoreHl}}}
-pub use Rattle.treecode.specs.{internal.Homes.{external_number, frame_number, frame_variable, is_global_procedure, kind_of, location_of, parameter_at, parameter_number, parameters_of, place_of_slot}, internal.Known.{known_number, known_value}, internal.Lowered.{HasBody, IsList, IsProcedure, ends_by, labels_numbered, labels_numbered_in_else, labels_numbered_in_list, labels_numbered_in_statements, numbers_from, reaches_end, reaches_end_of_else, reaches_end_of_list, reaches_end_of_statements}, internal.Nodes.{Nodes, home_at, nodes_of}, internal.Resolved.{HaveOperands, Resolves}, declared.lists.Range.{Range}, declared.module.TreeModule.{TreeModule}, declared.place.Home.{Home as TreeHome}, declared.place.Location.{Location, TheVariants.{Frame, Static}}, declared.place.Place.{Place, TheVariants.{Number}}, declared.procedure.FrameVariable.{FrameVariable}, declared.procedure.Parameter.{Parameter}, declared.procedure.ProcedureKind.{ProcedureKind}, declared.procedure.TreeProcedure.{TreeProcedure}}
+pub use Rattle.treecode.specs.{internal.Homes.{external_number, frame_number, frame_variable, is_global_procedure, kind_of, location_of, parameter_at, parameter_number, parameters_of, place_of_slot}, internal.Known.{known_number, known_value}, internal.Lowered.{HasBody, IsList, IsProcedure, ends_by, head_ends, labels_numbered, labels_numbered_in_else, labels_numbered_in_list, labels_numbered_in_statements, numbers_from, reaches_end, reaches_end_of_else, reaches_end_of_list, reaches_end_of_statements}, internal.Nodes.{Nodes, home_at, nodes_of}, internal.Resolved.{HaveOperands, Resolves}, declared.lists.Range.{Range}, declared.module.TreeModule.{TreeModule}, declared.place.Home.{Home as TreeHome}, declared.place.Location.{Location, TheVariants.{Frame, Static}}, declared.place.Place.{Place, TheVariants.{Number}}, declared.procedure.FrameVariable.{FrameVariable}, declared.procedure.Parameter.{Parameter}, declared.procedure.ProcedureKind.{ProcedureKind}, declared.procedure.TreeProcedure.{TreeProcedure}}
 pub use Rattle.treecode_laws.proofs.Labels.{same_number}
 pub use Rattle.frames.proofs.{FrameBytes.{bytes_are, listed, object_fits, scalar_size}, Entries.{entries}, Frames.{parameter_count}, Homes.{home_in_data, home_in_frame}, Objects.{entry_is, lowered_framed}, Parameters.{frame_fits, framed, has_parameters, none_found, numbered_at}, Places.{ends_within}}
 pub use Rattle.frames.specs.{internal.Frames.{IsPlanOf, bytes_by_parameter, distance_by_parameter, distance_in, distance_of, parameter_distance, return_distance, return_of, variable_bytes, word_distance}, declared.frame_plan.FramePlan.{FramePlan}, internal.Objects.{HasByte, ObjectsLie}}

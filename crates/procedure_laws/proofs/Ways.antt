@@ -1,6 +1,7 @@
 -- How a body can be left: no jump leaves one in which each GOTO goes to a label of a list around it; its end
 -- is reached only where its form and known conditions let it be; and a main program does not return.
-use Rattle.procedure_laws.proofs.Prelude.{◌≡◌, ℕ, zero, suc, ◌+◌, ◌-◌, ◌≤◌, ◌==◌, Bool, true, false, not, List, [], ◌∷◌, length, slice_get, nat_le, nat_lt, Option, Some, None, cond, Any, option_map, arith, refl, sym, ap, subst, ◌∙◌, LabelsOf, IsAmongLabels, labels_of_list, IsClosed, JumpsStay, JumpsStayInElse, JumpsStayInStatements, JumpsStayInList, LabelsStand, ListsStand, ListsStandInCases, ListsStandInElse, ListsStandInStatements, ListStands, TypedExpression, TypedIteration, TypedModule, TypedStatement, LabelStatement, NullStatement, AssignmentStatement, CallStatement, MoveStatement, ReturnStatement, HaltStatement, GotoStatement, IfStatement, DoStatement, WhileStatement, IterateStatement, CaseStatement, TypedElse, NoElse, ElseStatement, TypedStatements, NoStatements, MoreStatements, TypedList, ListOf, IsReturned, TypesHold, TypesHoldIn, TypesHoldInElse, TypesHoldInList, TypesHoldInStatements, Within, WithinMain, WithinProcedure, Storage, as_type, is_true, values_of, Surroundings, Later, Turn, WhileTurn, IterateTurn, after_turn, called_for, callee_in, caught_in, done, done_all, done_case, done_else, done_list, dropped, going_on, iterated, later_by, moved, read_variable, rest_from, rest_of, returned, step_value, stepped, stored_in_each, turn_of, value, values, write_variable, Outcome, Gave, Stopped, then_do, taking_one, Flow, Onward, Returned, Jumped, body_of_turn, Place, Number, known_number, known_value, ends_by, reaches_end, reaches_end_of_else, reaches_end_of_list, reaches_end_of_statements, Nodes, HaveOperands, Resolves, have_operands, place_of_number, dropped_types, or_left, or_right, dropped_lists, jumps_dropped, outer_label}
+use Rattle.procedure_laws.proofs.Prelude.{◌≡◌, ℕ, zero, suc, ◌+◌, ◌-◌, ◌≤◌, ◌==◌, Bool, true, false, not, List, [], ◌∷◌, length, slice_get, nat_le, nat_lt, Option, Some, None, cond, Any, option_map, arith, refl, sym, ap, subst, ◌∙◌, LabelsOf, IsAmongLabels, labels_of_list, IsClosed, JumpsStay, JumpsStayInElse, JumpsStayInStatements, JumpsStayInList, LabelsStand, ListsStand, ListsStandInCases, ListsStandInElse, ListsStandInStatements, ListStands, TypedExpression, TypedHead, TypedIteration, TypedModule, TypedStatement, LabelStatement, NullStatement, AssignmentStatement, CallStatement, MoveStatement, ReturnStatement, HaltStatement, GotoStatement, IfStatement, DoStatement, LoopStatement, CaseStatement, TypedElse, NoElse, ElseStatement, TypedStatements, NoStatements, MoreStatements, TypedList, ListOf, IsReturned, TypesHold, TypesHoldIn, TypesHoldInElse, TypesHoldInHead, TypesHoldInList, TypesHoldInStatements, Within, WithinMain, WithinProcedure, Storage, as_type, is_true, values_of, Surroundings, Later, LoopTurn, after_turn, begun_loop, called_for, callee_in, caught_in, done, done_all, done_case, done_else, done_list, dropped, going_on, iterated, later_by, moved, read_variable, rest_from, rest_of, returned, step_value, stepped, stored_in_each, turn_of, turned_loop, value, values, write_variable, Outcome, Gave, Stopped, then_do, taking_one, Flow, Onward, Returned, Jumped, Place, Number, known_number, known_value, ends_by, head_ends, reaches_end, reaches_end_of_else, reaches_end_of_list, reaches_end_of_statements, Nodes, HaveOperands, Resolves, have_operands, place_of_number, dropped_types, or_left, or_right, dropped_lists, jumps_dropped, outer_label}
+use Rattle.typed_trees.specs.TypedTrees.{WhileHead, CountHead}
 use Rattle.meaning.specs.{Meaning.{landed}, Outcomes.{State}}
 use Rattle.treecode.specs.declared.place.Home.{Home}
 use Rattle.treecode_laws.proofs.Operands.{known_gives}
@@ -26,16 +27,6 @@ LeavesBy ways (Jumped label) = Any (IsAmongLabels label) ways.labels
 abbrev pub IsLeftBy : Ways → Outcome Flow → Type 0
 IsLeftBy ways (Gave flow t) = LeavesBy ways flow
 IsLeftBy ways (Stopped why t) = Unit {0}
-
--- whether a further turn of a loop can end
-abbrev pub reaches_after : List Home → Storage → Turn → Bool
-reaches_after starts storage (WhileTurn condition body) =
-    reaches_end starts storage (WhileStatement condition body)
-reaches_after starts storage (IterateTurn head body) = true
-
-abbrev ConditionHolds : TypedModule → Within → Turn → Type 0
-ConditionHolds typed within (WhileTurn condition body) = TypesHold typed within condition
-ConditionHolds typed within (IterateTurn head body) = Unit {0}
 
 -- there is a statement
 abbrev IsSome : TypedStatements → Type 0
@@ -175,10 +166,11 @@ module _ (typed : TypedModule) (within : Within) (nodes : Nodes) (storage : Stor
     pub types : TypesHoldInList typed within list
 
   pub record LaterIsLeft (later : Later) : Type 0 where
-    pub again : (labels : List LabelsOf) (turn : Turn) (s : State)
-        → IsGood labels (body_of_turn turn)
-        → ConditionHolds typed within turn
-        → IsLeftBy (by (reaches_after nodes.homes storage turn) labels) (later.again turn around s)
+    pub again : (labels : List LabelsOf) (head : TypedHead) (body : TypedList) (s : State)
+        → IsGood labels body
+        → TypesHoldInHead typed within head
+        → IsLeftBy (by (head_ends nodes.homes storage head) labels)
+        (later.again (LoopTurn head body) around s)
     pub onto : (labels : List LabelsOf) (list : TypedList) (rest : TypedStatements) (label : ℕ) (s : State)
         → IsGood labels list
         → rest_from label list ≡ Some rest
@@ -229,39 +221,43 @@ module _ (typed : TypedModule) (within : Within) (nodes : Nodes) (storage : Stor
     catches first places body labels (Jumped label) t good leaves =
         lands first label places body labels (rest_from label (ListOf first places body)) t refl good leaves
 
-    turns : (labels : List LabelsOf) (turn : Turn) (other : Bool) (flow : Flow) (t : State)
-        → IsGood labels (body_of_turn turn)
-        → ConditionHolds typed within turn
+    turns : (labels : List LabelsOf) (head : TypedHead) (body : TypedList) (other : Bool)
+        (flow : Flow) (t : State)
+        → IsGood labels body
+        → TypesHoldInHead typed within head
         → LeavesBy (by other labels) flow
-        → IsLeftBy (by (reaches_after starts storage turn) labels) (after_turn later around turn flow t)
-    turns labels turn other Onward t good condition leaves = left.again labels turn t good condition
-    turns labels turn other (Returned found) t good condition leaves = leaves
-    turns labels turn other (Jumped label) t good condition leaves = leaves
+        → IsLeftBy (by (head_ends starts storage head) labels)
+        (after_turn later around (LoopTurn head body) flow t)
+    turns labels head body other Onward t good types leaves = left.again labels head body t good types
+    turns labels head body other (Returned found) t good types leaves = leaves
+    turns labels head body other (Jumped label) t good types leaves = leaves
 
     steps_left : (labels : List LabelsOf) (head : TypedIteration) (body : TypedList)
         (other : Bool) (flow : Flow)
         (t : State)
         → IsGood labels body
+        → TypesHoldInHead typed within (CountHead head)
         → LeavesBy (by other labels) flow
         → IsLeftBy (by true labels) (stepped later around head body flow t)
-    steps_left labels head body other Onward t good leaves =
+    steps_left labels head body other Onward t good types leaves =
         left_then (by true labels) (step_value later around head.step t) _
         (λ step u. left_then (by true labels) (read_variable around head u) _
         (λ found v.
         left_then (by true labels) (write_variable around head (as_type head.scalar (found + step)) v) _
         (λ done w.
         left_if (by true labels) (nat_lt (found + step) (values_of head.scalar))
-        (later.again (IterateTurn head body) around w) (Gave Onward w)
-        (λ same. left.again labels (IterateTurn head body) w good tt) (λ same. refl))))
-    steps_left labels head body other (Returned found) t good leaves = leaves
-    steps_left labels head body other (Jumped label) t good leaves = leaves
+        (later.again (LoopTurn (CountHead head) body) around w) (Gave Onward w)
+        (λ same. left.again labels (CountHead head) body w good types) (λ same. refl))))
+    steps_left labels head body other (Returned found) t good types leaves = leaves
+    steps_left labels head body other (Jumped label) t good types leaves = leaves
 
     iterates : (labels : List LabelsOf) (head : TypedIteration) (body : TypedList) (s : State)
         → IsGood labels body
+        → TypesHoldInHead typed within (CountHead head)
         → ((t : State)
         → IsLeftBy (by (reaches_end_of_list starts storage true body) labels) (done_list later around body t))
         → IsLeftBy (by true labels) (iterated later around head body (λ v. done_list later around body v) s)
-    iterates labels head body s good body_left =
+    iterates labels head body s good types body_left =
         left_then (by true labels) (value later around head.last s) _
         (λ last t. left_then (by true labels) (read_variable around head t) _
         (λ found u.
@@ -275,7 +271,8 @@ module _ (typed : TypedModule) (within : Within) (nodes : Nodes) (storage : Stor
         left_flow (by (reaches_end_of_list starts storage true body) labels) (by true labels)
         (done_list later around body v) (stepped later around head body) (body_left v)
         (λ flow w leaves.
-        steps_left labels head body (reaches_end_of_list starts storage true body) flow w good leaves)))))
+        steps_left labels head body (reaches_end_of_list starts storage true body) flow w good types
+        leaves)))))
 
     -- a condition that is known gives its number
     known_condition : (condition : TypedExpression) (n : ℕ)
@@ -290,6 +287,13 @@ module _ (typed : TypedModule) (within : Within) (nodes : Nodes) (storage : Stor
         (place_of_number (known_value starts storage condition) n is) s
         ∙ ap (λ (k : ℕ). Gave k s) (resolves.number n)
 
+    -- what follows a turn of a DO WHILE, and the turn with it
+    abbrev next : TypedExpression → TypedList → Flow → State → Outcome Flow
+    next condition body flow t = after_turn later around (LoopTurn (WhileHead condition) body) flow t
+
+    abbrev one_turn : TypedExpression → TypedList → State → Outcome Flow
+    one_turn condition body t = then_do (done_list later around body t) (next condition body)
+
     whiles : (condition : TypedExpression) (body : TypedList) (labels : List LabelsOf) (s : State)
         (known : Option ℕ)
         → known_number (known_value starts storage condition) ≡ known
@@ -297,61 +301,69 @@ module _ (typed : TypedModule) (within : Within) (nodes : Nodes) (storage : Stor
         → TypesHold typed within condition
         → ((t : State)
         → IsLeftBy (by (reaches_end_of_list starts storage true body) labels) (done_list later around body t))
-        → IsLeftBy (by (ends_by known) labels) (done later around (WhileStatement condition body) s)
+        → IsLeftBy (by (ends_by known) labels)
+        (turned_loop later around (WhileHead condition) body (λ t. done_list later around body t) s)
     whiles condition body labels s None known good types body_left =
         left_then (by true labels) (value later around condition s) _
         (λ found t.
-        left_if (by true labels) (is_true found)
-        (taking_one t (λ u. then_do (done_list later around body u)
-        (after_turn later around (WhileTurn condition body))))
-        (Gave Onward t)
+        left_if (by true labels) (is_true found) (taking_one t (one_turn condition body)) (Gave Onward t)
         (λ same.
-        left_taking (by true labels) t
-        (λ u. then_do (done_list later around body u) (after_turn later around (WhileTurn condition body)))
+        left_taking (by true labels) t (one_turn condition body)
         (λ u.
         left_flow (by (reaches_end_of_list starts storage true body) labels) (by true labels)
-        (done_list later around body u) (after_turn later around (WhileTurn condition body)) (body_left u)
+        (done_list later around body u) (next condition body) (body_left u)
         (λ flow v leaves.
-        left_wider (by (reaches_after starts storage (WhileTurn condition body)) labels) (by true labels)
-        (after_turn later around (WhileTurn condition body) flow v)
-        (λ flow leaves. reached (reaches_after starts storage (WhileTurn condition body)) true
+        left_wider (by (head_ends starts storage (WhileHead condition)) labels) (by true labels)
+        (next condition body flow v)
+        (λ flow leaves. reached (head_ends starts storage (WhileHead condition)) true
         (may_return within) labels flow (λ same. refl) leaves)
-        (turns labels (WhileTurn condition body) (reaches_end_of_list starts storage true body) flow v
+        (turns labels (WhileHead condition) body (reaches_end_of_list starts storage true body) flow v
         good types leaves))))
         (λ same. refl))
     whiles condition body labels s (Some n) known good types body_left =
         subst (λ (outcome : Outcome ℕ).
         IsLeftBy (by (not (is_true n)) labels)
         (then_do outcome
-        (λ number t.
-        cond (is_true number)
-        (taking_one t
-        (λ u. then_do (done_list later around body u) (after_turn later around (WhileTurn condition body))))
-        (Gave Onward t))))
+        (λ number t. cond (is_true number) (taking_one t (one_turn condition body)) (Gave Onward t))))
         (sym (known_condition condition n types known s))
         (by_test (is_true n) refl)
       where
         by_test : (test : Bool) → is_true n ≡ test
             → IsLeftBy (by (not test) labels)
-            (cond test
-            (taking_one s
-            (λ u. then_do (done_list later around body u)
-            (after_turn later around (WhileTurn condition body))))
-            (Gave Onward s))
+            (cond test (taking_one s (one_turn condition body)) (Gave Onward s))
         by_test false same = refl
         by_test true same =
-            left_taking (by false labels) s
-            (λ u. then_do (done_list later around body u)
-            (after_turn later around (WhileTurn condition body)))
+            left_taking (by false labels) s (one_turn condition body)
             (λ u.
             left_flow (by (reaches_end_of_list starts storage true body) labels) (by false labels)
-            (done_list later around body u) (after_turn later around (WhileTurn condition body)) (body_left u)
+            (done_list later around body u) (next condition body) (body_left u)
             (λ flow v leaves.
-            subst (λ (test : Bool).
-            IsLeftBy (by test labels) (after_turn later around (WhileTurn condition body) flow v))
+            subst (λ (test : Bool). IsLeftBy (by test labels) (next condition body flow v))
             (ap (λ (known : Option ℕ). ends_by known) known ∙ ap not same)
-            (turns labels (WhileTurn condition body) (reaches_end_of_list starts storage true body) flow v
+            (turns labels (WhileHead condition) body (reaches_end_of_list starts storage true body) flow v
             good types leaves)))
+
+    -- a turn of a loop, and what comes before the first one
+    turned_left : (labels : List LabelsOf) (head : TypedHead) (body : TypedList) (s : State)
+        → IsGood labels body
+        → TypesHoldInHead typed within head
+        → ((t : State)
+        → IsLeftBy (by (reaches_end_of_list starts storage true body) labels) (done_list later around body t))
+        → IsLeftBy (by (head_ends starts storage head) labels)
+        (turned_loop later around head body (λ t. done_list later around body t) s)
+    turned_left labels (WhileHead condition) body s good types body_left =
+        whiles condition body labels s (known_number (known_value starts storage condition)) refl good types
+        body_left
+    turned_left labels (CountHead head) body s good types body_left =
+        iterates labels head body s good types body_left
+
+    begun_left : (ways : Ways) (head : TypedHead) (turns : State → Outcome Flow) (s : State)
+        → ((t : State) → IsLeftBy ways (turns t)) → IsLeftBy ways (begun_loop later around head turns s)
+    begun_left ways (WhileHead condition) turns s rest = rest s
+    begun_left ways (CountHead head) turns s rest =
+        left_then ways (value later around head.first s) _
+        (λ found t.
+        left_then ways (write_variable around head (as_type head.scalar found) t) _ (λ done u. rest u))
 
     goes_on : (first : TypedStatement) (others : TypedStatements) (labels : List LabelsOf)
         (flow : Flow) (t : State)
@@ -423,16 +435,12 @@ module _ (typed : TypedModule) (within : Within) (nodes : Nodes) (storage : Stor
           (or_right (reaches_end starts storage body) (reaches_end_of_else starts storage otherwise)) leaves)
           (else_left otherwise labels t jumps.1 stand.2 types.2)))
       statement_left (DoStatement body) labels s jumps stand types = list_left body labels s jumps stand types
-      statement_left (WhileStatement condition body) labels s jumps stand types =
-          whiles condition body labels s (known_number (known_value starts storage condition)) refl
-          (record { jumps = jumps; stands = stand; types = types.1 }) types.0
-          (λ t. list_left body labels t jumps stand types.1)
-      statement_left (IterateStatement head body) labels s jumps stand types =
-          left_then (by true labels) (value later around head.first s) _
-          (λ found t. left_then (by true labels) (write_variable around head (as_type head.scalar found) t) _
-          (λ done u.
-          iterates labels head body u (record { jumps = jumps; stands = stand; types = types.1 })
-          (λ v. list_left body labels v jumps stand types.1)))
+      statement_left (LoopStatement head body) labels s jumps stand types =
+          begun_left (by (head_ends starts storage head) labels) head
+          (turned_loop later around head body (λ t. done_list later around body t)) s
+          (λ t.
+          turned_left labels head body t (record { jumps = jumps; stands = stand; types = types.1 }) types.0
+          (λ u. list_left body labels u jumps stand types.1))
       statement_left (CaseStatement choice body) labels s jumps stand types =
           left_then (by true labels) (value later around choice s) _
           (λ found t. case_left body found labels t jumps stand types.1)
@@ -493,15 +501,13 @@ module _ (typed : TypedModule) (within : Within) (nodes : Nodes) (storage : Stor
           catches first places body labels flow t
           (record { jumps = jumps; stands = stand; types = types }) leaves)
 
-    turn_left : (labels : List LabelsOf) (turn : Turn) (s : State)
-        → IsGood labels (body_of_turn turn)
-        → ConditionHolds typed within turn
-        → IsLeftBy (by (reaches_after starts storage turn) labels) (turn_of later turn around s)
-    turn_left labels (WhileTurn condition body) s good condition_types =
-        statement_left (WhileStatement condition body) labels s good.jumps good.stands
-        (condition_types, good.types)
-    turn_left labels (IterateTurn head body) s good condition_types =
-        iterates labels head body s good (λ v. list_left body labels v good.jumps good.stands good.types)
+    turn_left : (labels : List LabelsOf) (head : TypedHead) (body : TypedList) (s : State)
+        → IsGood labels body
+        → TypesHoldInHead typed within head
+        → IsLeftBy (by (head_ends starts storage head) labels) (turn_of later (LoopTurn head body) around s)
+    turn_left labels head body s good types =
+        turned_left labels head body s good types
+        (λ t. list_left body labels t good.jumps good.stands good.types)
 
     rest_left : (labels : List LabelsOf) (list : TypedList) (rest : TypedStatements) (label : ℕ) (s : State)
         → IsGood labels list
@@ -540,12 +546,12 @@ module _ (typed : TypedModule) (within : Within) (nodes : Nodes) (storage : Stor
 
   pub later_left : (count : ℕ) → LaterIsLeft (later_by count)
   later_left zero = record {
-    again = λ labels turn s good condition. tt;
+    again = λ labels head body s good types. tt;
     onto = λ labels list rest label s good found. tt;
   }
   later_left (suc count) = record {
-    again = λ labels turn s good condition. turn_left (later_by count) (later_left count) labels
-        turn s good condition;
+    again = λ labels head body s good types. turn_left (later_by count) (later_left count) labels
+        head body s good types;
     onto = λ labels list rest label s good found. rest_left (later_by count) (later_left count) labels list
         rest label s good found;
   }

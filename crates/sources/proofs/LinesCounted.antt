@@ -10,10 +10,9 @@ use Rattle.trees.specs.internal.Views.{block_declarations, block_statements, kin
 use Rattle.trees.specs.declared.identifier.Place.{Place}
 use Rattle.trees.specs.declared.statement.Block.{Block}
 use Rattle.trees.specs.declared.statement.DoCase.{DoCase, out-DoCase}
-use Rattle.trees.specs.declared.statement.DoWhile.{DoWhile, out-DoWhile}
-use Rattle.trees.specs.declared.statement.IterativeDo.{IterativeDo, out-IterativeDo}
+use Rattle.trees.specs.declared.statement.Loop.{Loop, out-Loop}
 use Rattle.trees.specs.declared.statement.StatementKind.TheVariants as kinds
-use Rattle.names.proofs.TreesOfParts.{do_tree_is, while_tree_is, iterate_tree_is, case_tree_is}
+use Rattle.names.proofs.TreesOfParts.{do_tree_is, loop_tree_is, case_tree_is}
 use Rattle.typing.specs.internal.Untyped.{bodies_in, bodies_in_kind, bodies_in_statements}
 use Rattle.sources.specs.declared.lines.LineWalk.{LineWalk}
 use Rattle.sources.specs.declared.lines.ProcedureLines.{ProcedureLines}
@@ -92,25 +91,15 @@ pub do_parts : (place : Place) (p : _) (block : Block)
     → count_of_parts (kind_tree (kinds.Do' place p block)) ≡ count_of_statements (block_statements block)
 do_parts place p block = ap count_of_parts (do_tree_is place p block)
 
-pub while_bodies : (p : _) (turns : DoWhile)
-    → bodies_in_kind (kind_tree (kinds.While' p turns))
-    ≡ bodies_in_statements (statement_trees (out-DoWhile turns).body.items)
-while_bodies p turns = ap bodies_in_kind (while_tree_is p turns)
+pub loop_bodies : (p : _) (turns : Loop)
+    → bodies_in_kind (kind_tree (kinds.Loop' p turns))
+    ≡ bodies_in_statements (statement_trees (out-Loop turns).body.items)
+loop_bodies p turns = ap bodies_in_kind (loop_tree_is p turns)
 
-pub while_parts : (p : _) (turns : DoWhile)
-    → count_of_parts (kind_tree (kinds.While' p turns))
-    ≡ count_of_statements (statement_trees (out-DoWhile turns).body.items)
-while_parts p turns = ap count_of_parts (while_tree_is p turns)
-
-pub iterate_bodies : (p : _) (turns : IterativeDo)
-    → bodies_in_kind (kind_tree (kinds.Iterate' p turns))
-    ≡ bodies_in_statements (statement_trees (out-IterativeDo turns).body.items)
-iterate_bodies p turns = ap bodies_in_kind (iterate_tree_is p turns)
-
-pub iterate_parts : (p : _) (turns : IterativeDo)
-    → count_of_parts (kind_tree (kinds.Iterate' p turns))
-    ≡ count_of_statements (statement_trees (out-IterativeDo turns).body.items)
-iterate_parts p turns = ap count_of_parts (iterate_tree_is p turns)
+pub loop_parts : (p : _) (turns : Loop)
+    → count_of_parts (kind_tree (kinds.Loop' p turns))
+    ≡ count_of_statements (statement_trees (out-Loop turns).body.items)
+loop_parts p turns = ap count_of_parts (loop_tree_is p turns)
 
 pub case_bodies : (p : _) (choice : DoCase)
     → bodies_in_kind (kind_tree (kinds.Case' p choice))

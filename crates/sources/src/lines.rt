@@ -273,8 +273,7 @@ impl LineWalk {
         match kind {
             StatementKind::If(branch) => self.branch(owner, branch, lines),
             StatementKind::Do { block, .. } => self.block(owner, block, lines),
-            StatementKind::While(turns) => self.statements(owner, turns.body.as_slice(), lines),
-            StatementKind::Iterate(turns) => self.statements(owner, turns.body.as_slice(), lines),
+            StatementKind::Loop(turns) => self.statements(owner, turns.body.as_slice(), lines),
             StatementKind::Case(choice) => self.statements(owner, choice.body.as_slice(), lines),
             StatementKind::Null(_)
             | StatementKind::Assignment(_)

@@ -1,6 +1,7 @@
 -- Jumps that are filled in after the code that they pass over.
-use Rattle.stack_compiler.proofs.Prelude.{◌≡◌, ℕ, suc, ◌+◌, ◌-◌, List, [], ◌∷◌, ◌++◌, length, set, None, Some, ap, sym, ◌∙◌, arith, append_assoc, length-append, set-append_seam, Instruction, Drop, Jump, JumpUnless, LoopBack, Step, TypedIteration, TypedList, IterateStatement, Site, ToRead, ToWrite, choice_code, first_code, last_code, list_code, loop_code, statement_code, step_code, value_or, variable_code}
-use Rattle.stack_compiler.specs.internal.Loops.{stepping_code}
+use Rattle.stack_compiler.proofs.Prelude.{◌≡◌, ℕ, suc, ◌+◌, ◌-◌, List, [], ◌∷◌, ◌++◌, length, set, None, Some, ap, sym, ◌∙◌, arith, append-nil, append_assoc, length-append, set-append_seam, refl, Instruction, Drop, Jump, JumpUnless, LoopBack, Step, TypedHead, TypedIteration, TypedList, LoopStatement, Site, ToRead, ToWrite, choice_code, expression_code, first_code, list_code, loop_code, statement_code, step_code, test_code, value_or, variable_code, passing}
+use Rattle.typed_trees.specs.TypedTrees.{WhileHead, CountHead}
+use Rattle.stack_compiler.specs.internal.Loops.{stepping_code, turn_ended, turned_back}
 
 after_hole : (front body : List Instruction) (hole : Instruction) (at : ℕ) → at ≡ length front
     → length (front ++ (hole ∷ body)) - (at + 1) ≡ length body
@@ -85,7 +86,7 @@ module _ (old a b c d new body test : List Instruction) (start count : ℕ) (at 
       five ∙ ap (λ code. length code - (start + 1)) while_d
       ∙ after_hole old (body ++ test) (Jump (length body)) start at ∙ length-append body test
 
-  pub while_made : new ≡ old ++ (Jump (length body) ∷ loop_code body test)
+  while_made : new ≡ old ++ (Jump (length body) ∷ loop_code body test)
   while_made =
       six
       ∙ ap (λ code. code ++ (LoopBack count ∷ [])) while_d
@@ -151,10 +152,9 @@ module _ (old a b c d e f g h new first body stepping last : List Instruction) (
   turn_stepped : (passed : ℕ) → turn ++ (JumpUnless passed ∷ []) ≡ body ++ step_with passed
   turn_stepped passed = append_assoc body stepping (JumpUnless passed ∷ [])
 
-  turn_length : length turn + 1 ≡ length body + length stepped
+  turn_length : length turn + 1 ≡ length (body ++ stepped)
   turn_length =
       sym (one_more turn (JumpUnless (length last + 1))) ∙ ap length (turn_stepped (length last + 1))
-      ∙ length-append body stepped
 
   count_is : count ≡ length (body ++ stepped) + length last
   count_is =
@@ -162,14 +162,13 @@ module _ (old a b c d e f g h new first body stepping last : List Instruction) (
       (g_turn ∙ append_assoc a (Jump (length turn + 1) ∷ turn) (JumpUnless 0 ∷ last))
       ∙ after_hole a (turn ++ (JumpUnless 0 ∷ last)) (Jump (length turn + 1)) start at
       ∙ length-append turn (JumpUnless 0 ∷ last)
-      ∙ sum_is (length turn) (length last) (length (body ++ stepped))
-      (sym (one_more turn (JumpUnless (length last + 1))) ∙ ap length (turn_stepped (length last + 1)))
+      ∙ sum_is (length turn) (length last) (length (body ++ stepped)) turn_length
     where
       sum_is : (m n k : ℕ) → m + 1 ≡ k → m + suc n ≡ k + n
       sum_is m n k is = omega arith
 
-  pub iterate_code : new
-      ≡ old ++ (first ++ (Jump (length body + length stepped) ∷ loop_code (body ++ stepped) last))
+  iterate_code : new
+      ≡ old ++ (first ++ (Jump (length (body ++ stepped)) ∷ loop_code (body ++ stepped) last))
   iterate_code =
       new_turn
       ∙ append_assoc a (Jump (length turn + 1) ∷ turn)
@@ -178,32 +177,41 @@ module _ (old a b c d e f g h new first body stepping last : List Instruction) (
       (sym (append_assoc turn (JumpUnless (length last + 1) ∷ []) (last ++ (LoopBack count ∷ [])))
       ∙ ap (λ code. code ++ (last ++ (LoopBack count ∷ []))) (turn_stepped (length last + 1)))
       ∙ ap (λ passed. a ++ (Jump passed ∷ ((body ++ stepped) ++ (last ++ (LoopBack count ∷ []))))) turn_length
-      ∙ ap (λ passed. a ++ (Jump (length body + length stepped)
+      ∙ ap (λ passed. a ++ (Jump (length (body ++ stepped))
       ∷ ((body ++ stepped) ++ (last ++ (LoopBack passed ∷ []))))) count_is
-      ∙ ap (λ code. code ++ (Jump (length body + length stepped) ∷ loop_code (body ++ stepped) last)) one
-      ∙ append_assoc old first (Jump (length body + length stepped) ∷ loop_code (body ++ stepped) last)
+      ∙ ap (λ code. code ++ (Jump (length (body ++ stepped)) ∷ loop_code (body ++ stepped) last)) one
+      ∙ append_assoc old first (Jump (length (body ++ stepped)) ∷ loop_code (body ++ stepped) last)
 
 -- the step with its jump
 stepped_is : (site : Site) (head : TypedIteration)
-    → stepping_code site head ++ (JumpUnless (length (last_code site head) + 1) ∷ []) ≡ step_code site head
+    → stepping_code site head ++ (JumpUnless (length (test_code site (CountHead head)) + 1) ∷ [])
+    ≡ step_code site head
 stepped_is site head =
     append_assoc (value_or site 1 head.step)
     (variable_code site (ToRead head.scalar) head.variable ∷ Step head.scalar
     ∷ variable_code site (ToWrite head.scalar) head.variable ∷ Drop ∷ [])
-    (JumpUnless (length (last_code site head) + 1) ∷ [])
+    (JumpUnless (length (test_code site (CountHead head)) + 1) ∷ [])
 
-pub iterate_made : (site : Site) (head : TypedIteration) (body : TypedList)
-    (old a b c d e f g h new : List Instruction) (start leave count : ℕ)
+pub loop_made : (site : Site) (head : TypedHead) (body : TypedList) (old a b c : List Instruction) (start : ℕ)
     → a ≡ old ++ first_code site head → start ≡ length a → b ≡ a ++ (Jump 0 ∷ [])
-    → c ≡ b ++ list_code site body → d ≡ c ++ stepping_code site head
-    → leave ≡ length d → e ≡ d ++ (JumpUnless 0 ∷ []) → f ≡ set e start (Jump (length e - (start + 1)))
-    → g ≡ f ++ last_code site head
-    → count ≡ length g - (start + 1) → h ≡ g ++ (LoopBack count ∷ [])
-    → new ≡ set h leave (JumpUnless (length h - (leave + 1)))
-    → new ≡ old ++ statement_code site (IterateStatement head body)
-iterate_made site head body old a b c d e f g h new start leave count one at two three four at_leave five six
-    seven counted eight nine =
-    iterate_code old a b c d e f g h new (first_code site head) (list_code site body)
-    (stepping_code site head) (last_code site head) start leave count
-    one at two three four at_leave five six seven counted eight nine
-    ∙ ap (λ step. old ++ (first_code site head ++ (Jump (length (list_code site body) + length step) ∷ loop_code (list_code site body ++ step) (last_code site head)))) (stepped_is site head)
+    → c ≡ b ++ list_code site body
+    → turn_ended site head c start ≡ old ++ statement_code site (LoopStatement head body)
+loop_made site (WhileHead condition) body old a b c start one at two three =
+    let test : List Instruction = expression_code site condition in
+    let d : List Instruction = passing c start ++ test in
+    while_made a b c (passing c start) d (turned_back d start) (list_code site body) test start
+    (length d - (start + 1)) at two three refl refl refl refl
+    ∙ ap (λ code. code ++ (Jump (length (list_code site body)) ∷ loop_code (list_code site body) test))
+    (one ∙ append-nil old)
+loop_made site (CountHead head) body old a b c start one at two three =
+    let test : List Instruction = test_code site (CountHead head) in
+    let d : List Instruction = c ++ stepping_code site head in
+    let e : List Instruction = d ++ (JumpUnless 0 ∷ []) in
+    let g : List Instruction = passing e start ++ test in
+    iterate_code old a b c d e (passing e start) g (turned_back g start)
+    (turn_ended site (CountHead head) c start) (first_code site (CountHead head)) (list_code site body)
+    (stepping_code site head) test start (length d) (length g - (start + 1)) one at two three
+    refl refl refl refl refl refl refl refl
+    ∙ ap (λ step. old ++ (first_code site (CountHead head)
+    ++ (Jump (length (list_code site body ++ step)) ∷ loop_code (list_code site body ++ step) test)))
+    (stepped_is site head)

@@ -1,14 +1,14 @@
 //! The code of statements.
 
-ghost use Rattle.std.specs.Prelude.{◌≡◌, ◌+◌, ◌++◌, ◌∷◌, [], length, map, option_map, IfOk, OnOk};
-ghost use Rattle.typed_trees.specs.TypedTrees.{IterateStatement};
-ghost use Rattle.typed_trees.specs.Views.{arguments_view, else_view, expression_view, iteration_view, list_view, statement_view, statements_view, target_view};
+ghost use Rattle.std.specs.Prelude.{◌≡◌, ◌+◌, ◌++◌, ◌∷◌, [], map, option_map, IfOk, OnOk};
+ghost use Rattle.typed_trees.specs.TypedTrees.{LoopStatement};
+ghost use Rattle.typed_trees.specs.Views.{arguments_view, else_view, expression_view, head_view, iteration_view, list_view, statement_view, statements_view, target_view};
 ghost use Rattle.meaning.specs.Meaning.{callee_in};
-ghost use Rattle.stack_code.specs.declared.instruction.Instruction.TheVariants.{Case, Drop, Jump, Move, Return};
-ghost use Rattle.stack_code.specs.internal.Code.{arguments_code, called_code, cases_code, choice_code, count_of_arguments, count_of_statements, else_code, entries_code, expression_code, first_code, last_code, list_code, loop_code, statement_code, statements_code, step_code, surroundings_at, targets_code, value_or};
+ghost use Rattle.stack_code.specs.declared.instruction.Instruction.TheVariants.{Case, Drop, Move, Return};
+ghost use Rattle.stack_code.specs.internal.Code.{arguments_code, called_code, cases_code, choice_code, count_of_arguments, count_of_statements, else_code, entries_code, expression_code, first_code, list_code, statement_code, statements_code, surroundings_at, targets_code, test_code, value_or};
 ghost use Rattle.stack_compiler.specs.internal.Counted.{Numbers, numbered_else, numbered_list, numbered_parts, numbered_statements};
-ghost use Rattle.stack_compiler.specs.internal.Loops.{stepping_code, turned_back};
-ghost use Rattle.stack_compiler.specs.internal.Openings.{opened, opening, passing};
+ghost use Rattle.stack_compiler.specs.internal.Loops.{stepping_code, tested, turn_ended};
+ghost use Rattle.stack_compiler.specs.internal.Openings.{opened, opening};
 ghost use Rattle.stack_compiler.specs.internal.Sites.{site_view};
 
 use crate::expressions::{emit_after, emit_arguments, emit_call, emit_expression, emit_target};
@@ -21,8 +21,8 @@ use stack_code::Instruction;
 use std::alloc::AllocError;
 use trees::{BinaryOperator, ScalarType};
 use typed_trees::{
-    TypedAssignment, TypedCase, TypedExpression, TypedIf, TypedIterate, TypedIteration, TypedList,
-    TypedMove, TypedStatement, TypedTarget, TypedWhile,
+    TypedAssignment, TypedCase, TypedExpression, TypedHead, TypedIf, TypedIteration, TypedList,
+    TypedLoop, TypedMove, TypedStatement, TypedTarget,
 };
 
 // A value goes to targets, one by one.
@@ -110,49 +110,59 @@ fn emit_return(
     }
 }
 
-// The variable of an iterative DO gets its first value.
+// Before the first turn of a loop the variable of an iterative DO gets its first value.
 #[tactic(auto, using(std::proofs::lemmas::List::append_assoc))]
 fn emit_first(
     site: &Site<'_>,
     code: &mut Vec<Instruction>,
-    head: &TypedIteration,
+    head: &TypedHead,
 ) -> Result<(), AllocError>
     ensures { OnOk result (code.new.items
-        ≡ code.old.items ++ first_code (site_view site.now) (iteration_view head.now)) }
+        ≡ code.old.items ++ first_code (site_view site.now) (head_view head.now)) }
 {
-    let variable = variable_code(site, Purpose::Writing(head.scalar), head.variable);
-    emit_expression(site, code, &head.first)?;
-    emit_all(code, &[variable, Instruction::Drop])
+    match head {
+        TypedHead::While(_) => Ok(()),
+        TypedHead::Count(head) => {
+            let variable = variable_code(site, Purpose::Writing(head.scalar), head.variable);
+            emit_expression(site, code, &head.first)?;
+            emit_all(code, &[variable, Instruction::Drop])
+        }
+    }
 }
 
-// The variable is compared with the last value.
+// The test, which compares the variable of an iterative DO with the last value.
 #[tactic(auto, using(std::proofs::lemmas::List::append_assoc))]
-fn emit_last(
+fn emit_condition(
     site: &Site<'_>,
     code: &mut Vec<Instruction>,
-    head: &TypedIteration,
+    head: &TypedHead,
 ) -> Result<(), AllocError>
     ensures { OnOk result (code.new.items
-        ≡ code.old.items ++ last_code (site_view site.now) (iteration_view head.now)) }
+        ≡ code.old.items ++ test_code (site_view site.now) (head_view head.now)) }
 {
-    let variable = variable_code(site, Purpose::Reading(head.scalar), head.variable);
-    let compare = Instruction::Binary(ScalarType::Address, BinaryOperator::GreaterOrEqual);
-    emit_expression(site, code, &head.last)?;
-    emit_all(code, &[variable, compare])
+    match head {
+        TypedHead::While(condition) => emit_expression(site, code, condition),
+        TypedHead::Count(head) => {
+            let variable = variable_code(site, Purpose::Reading(head.scalar), head.variable);
+            let compare = Instruction::Binary(ScalarType::Address, BinaryOperator::GreaterOrEqual);
+            emit_expression(site, code, &head.last)?;
+            emit_all(code, &[variable, compare])
+        }
+    }
 }
 
-// The test of an iterative DO, to which the jump before its body leads.
+// The test after a turn, to which the jump before the body leads.
 fn emit_test(
     site: &Site<'_>,
     code: &mut Vec<Instruction>,
-    head: &TypedIteration,
+    head: &TypedHead,
     start: usize,
 ) -> Result<(), AllocError>
-    ensures { OnOk result (code.new.items ≡ turned_back
-        (passing code.old.items start ++ last_code (site_view site.now) (iteration_view head.now)) start) }
+    ensures { OnOk result (code.new.items
+        ≡ tested (site_view site.now) (head_view head.now) code.old.items start) }
 {
     close_jump(code, start);
-    emit_last(site, code, head)?;
+    emit_condition(site, code, head)?;
     emit_loop_back(code, start)
 }
 
@@ -193,6 +203,29 @@ fn emit_stepping(
             Instruction::Drop,
         ],
     )
+}
+
+// What follows the body of a loop: the step of an iterative DO, which may leave the loop, and the test.
+fn emit_turn_end(
+    site: &Site<'_>,
+    code: &mut Vec<Instruction>,
+    head: &TypedHead,
+    start: usize,
+) -> Result<(), AllocError>
+    ensures { OnOk result (code.new.items
+        ≡ turn_ended (site_view site.now) (head_view head.now) code.old.items start) }
+{
+    match head {
+        TypedHead::While(_) => emit_test(site, code, head, start),
+        TypedHead::Count(iteration) => {
+            emit_stepping(site, code, iteration)?;
+            let leave = next_place(code);
+            emit(code, Instruction::JumpUnless(0))?;
+            emit_test(site, code, head, start)?;
+            close_jump_unless(code, leave);
+            Ok(())
+        }
+    }
 }
 
 /// A statement.
@@ -255,8 +288,7 @@ fn emit_kind(
         ),
         TypedStatement::If(branch) => emit_if(site, code, marks, branch),
         TypedStatement::Do(body) => emit_list(site, code, marks, body),
-        TypedStatement::While(turns) => emit_while(site, code, marks, turns),
-        TypedStatement::Iterate(turns) => emit_iterate(site, code, marks, turns),
+        TypedStatement::Loop(turns) => emit_loop(site, code, marks, turns),
         TypedStatement::Case(choice) => emit_case(site, code, marks, choice),
     }
 }
@@ -328,40 +360,17 @@ fn emit_statements(
     Ok(())
 }
 
-// DO WHILE: the test stands after the body.
+// DO WHILE or an iterative DO: the step and the test stand after the body.
 #[cycle(statement)]
-fn emit_while(
+fn emit_loop(
     site: &Site<'_>,
     code: &mut Vec<Instruction>,
     marks: &mut Marks,
-    turns: &TypedWhile,
-) -> Result<(), AllocError>
-    ensures code { OnOk result (code.new.items ≡ code.old.items
-        ++ (Jump (length (list_code (site_view site.now) (list_view turns.now.body)))
-        ∷ loop_code (list_code (site_view site.now) (list_view turns.now.body))
-        (expression_code (site_view site.now) (expression_view turns.now.condition)))) }
-    ensures numbers { OnOk result (Numbers 1 (numbered_list (list_view turns.now.body)) marks.old marks.new) }
-{
-    let start = next_place(code);
-    emit(code, Instruction::Jump(0))?;
-    emit_list(site, code, marks, &turns.body)?;
-    marks.end_body(code)?;
-    close_jump(code, start);
-    emit_expression(site, code, &turns.condition)?;
-    emit_loop_back(code, start)
-}
-
-// An iterative DO: the step and the test stand after the body.
-#[cycle(statement)]
-fn emit_iterate(
-    site: &Site<'_>,
-    code: &mut Vec<Instruction>,
-    marks: &mut Marks,
-    turns: &TypedIterate,
+    turns: &TypedLoop,
 ) -> Result<(), AllocError>
     ensures code { OnOk result (code.new.items ≡ code.old.items
         ++ statement_code (site_view site.now)
-        (IterateStatement (iteration_view turns.now.head) (list_view turns.now.body))) }
+        (LoopStatement (head_view turns.now.head) (list_view turns.now.body))) }
     ensures numbers { OnOk result (Numbers 1 (numbered_list (list_view turns.now.body)) marks.old marks.new) }
 {
     emit_first(site, code, &turns.head)?;
@@ -369,12 +378,7 @@ fn emit_iterate(
     emit(code, Instruction::Jump(0))?;
     emit_list(site, code, marks, &turns.body)?;
     marks.end_body(code)?;
-    emit_stepping(site, code, &turns.head)?;
-    let leave = next_place(code);
-    emit(code, Instruction::JumpUnless(0))?;
-    emit_test(site, code, &turns.head, start)?;
-    close_jump_unless(code, leave);
-    Ok(())
+    emit_turn_end(site, code, &turns.head, start)
 }
 
 // DO CASE.

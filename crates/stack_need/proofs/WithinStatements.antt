@@ -1,5 +1,6 @@
 -- Where the room is enough, statements do not go outside for the stack.
-use Rattle.stack_need.proofs.Prelude.{◌≡◌, ℕ, zero, suc, ◌+◌, ◌-◌, ◌++◌, Bool, true, false, [], ◌∷◌, Option, Some, None, option_map, cond, nat_le, nat_lt, slice_get, refl, subst, TypedExpression, TypedIteration, TypedStatement, LabelStatement, NullStatement, AssignmentStatement, CallStatement, MoveStatement, ReturnStatement, HaltStatement, GotoStatement, IfStatement, DoStatement, WhileStatement, IterateStatement, CaseStatement, TypedElse, NoElse, ElseStatement, TypedStatements, NoStatements, MoreStatements, TypedList, ListOf, as_type, is_true, values_of, Surroundings, place_of, Later, Turn, WhileTurn, IterateTurn, after_turn, called_for, callee_in, caught_in, done, done_all, done_case, done_else, done_list, dropped, going_on, iterated, landed, moved, next_turn, read_variable, rest_from, rest_of, returned, step_value, stored_in_each, turn_of, value, values, write_variable, State, Outcome, Gave, then_do, taking_one, Flow, Onward, Returned, Jumped, calls_in, calls_in_arguments, calls_in_else, calls_in_iteration, calls_in_list, calls_in_optional, calls_in_statement, calls_in_statements, calls_in_targets, HoldsAll, HoldsCall, HoldsTurn, LaterStays, StaysWithin}
+use Rattle.stack_need.proofs.Prelude.{◌≡◌, ℕ, zero, suc, ◌+◌, ◌-◌, ◌++◌, Bool, true, false, [], ◌∷◌, Option, Some, None, option_map, cond, nat_le, nat_lt, slice_get, refl, subst, TypedExpression, TypedIteration, TypedHead, TypedStatement, LabelStatement, NullStatement, AssignmentStatement, CallStatement, MoveStatement, ReturnStatement, HaltStatement, GotoStatement, IfStatement, DoStatement, LoopStatement, CaseStatement, TypedElse, NoElse, ElseStatement, TypedStatements, NoStatements, MoreStatements, TypedList, ListOf, as_type, is_true, values_of, Surroundings, place_of, Later, Turn, LoopTurn, after_turn, begun, called_for, callee_in, caught_in, done, done_all, done_case, done_else, done_list, dropped, going_on, landed, moved, next_turn, read_variable, rest_from, rest_of, returned, step_value, stored_in_each, turn_of, turned, value, values, write_variable, State, Outcome, Gave, then_do, taking_one, Flow, Onward, Returned, Jumped, calls_in, calls_in_arguments, calls_in_else, calls_in_head, calls_in_list, calls_in_optional, calls_in_statement, calls_in_statements, calls_in_targets, HoldsAll, HoldsCall, HoldsTurn, LaterStays, StaysWithin}
+use Rattle.typed_trees.specs.TypedTrees.{WhileHead, CountHead}
 use Rattle.meaning.specs.Meaning.{stepped}
 use Rattle.stack_need.proofs.Elements.{all_left, all_right}
 use Rattle.stack_need.proofs.Within.{call_stays, changes_scalar, either, moved_stays, then_do_stays, reads_scalar, takes_one, targets_stay, value_stays, values_stay}
@@ -74,26 +75,30 @@ module _ (later : Later) (stays : LaterStays later) where
   steps (Some step) around s holds = value_stays later stays step around s holds
 
   turns_next : (head : TypedIteration) (body : TypedList) (sum : ℕ) (around : Surroundings) (s : State)
-      → HoldsTurn around (IterateTurn head body) → StaysWithin (next_turn later around head body sum s)
+      → HoldsTurn around (LoopTurn (CountHead head) body)
+      → StaysWithin (next_turn later around head body sum s)
   turns_next head body sum around s holds =
-      either (nat_lt sum (values_of head.scalar)) (later.again (IterateTurn head body) around s)
-      (Gave Onward s) (stays.again (IterateTurn head body) around s holds) tt
+      either (nat_lt sum (values_of head.scalar)) (later.again (LoopTurn (CountHead head) body) around s)
+      (Gave Onward s) (stays.again (LoopTurn (CountHead head) body) around s holds) tt
 
   -- the parts of the head of an iterative DO
-  first_of_head : (head : TypedIteration) (around : Surroundings) → HoldsAll around (calls_in_iteration head)
+  first_of_head : (head : TypedIteration) (around : Surroundings)
+      → HoldsAll around (calls_in_head (CountHead head))
       → HoldsAll around (calls_in head.first)
   first_of_head head around holds =
       all_left (HoldsCall around) (calls_in head.first)
       (calls_in head.last ++ calls_in_optional head.step) holds
 
-  last_of_head : (head : TypedIteration) (around : Surroundings) → HoldsAll around (calls_in_iteration head)
+  last_of_head : (head : TypedIteration) (around : Surroundings)
+      → HoldsAll around (calls_in_head (CountHead head))
       → HoldsAll around (calls_in head.last)
   last_of_head head around holds =
       all_left (HoldsCall around) (calls_in head.last) (calls_in_optional head.step)
       (all_right (HoldsCall around) (calls_in head.first)
       (calls_in head.last ++ calls_in_optional head.step) holds)
 
-  step_of_head : (head : TypedIteration) (around : Surroundings) → HoldsAll around (calls_in_iteration head)
+  step_of_head : (head : TypedIteration) (around : Surroundings)
+      → HoldsAll around (calls_in_head (CountHead head))
       → HoldsAll around (calls_in_optional head.step)
   step_of_head head around holds =
       all_right (HoldsCall around) (calls_in head.last) (calls_in_optional head.step)
@@ -101,7 +106,8 @@ module _ (later : Later) (stays : LaterStays later) where
       (calls_in head.last ++ calls_in_optional head.step) holds)
 
   steps_after : (head : TypedIteration) (body : TypedList) (flow : Flow) (around : Surroundings) (s : State)
-      → HoldsTurn around (IterateTurn head body) → StaysWithin (stepped later around head body flow s)
+      → HoldsTurn around (LoopTurn (CountHead head) body)
+      → StaysWithin (stepped later around head body flow s)
   steps_after head body Onward around s holds =
       then_do_stays (step_value later around head.step s) _
       (steps head.step around s (step_of_head head around holds.0))
@@ -116,11 +122,32 @@ module _ (later : Later) (stays : LaterStays later) where
   steps_after head body (Returned found) around s holds = tt
   steps_after head body (Jumped label) around s holds = tt
 
-  iterates : (head : TypedIteration) (body : TypedList) (body_done : State → Outcome Flow)
+  turns_after : (turn : Turn) (flow : Flow) (around : Surroundings) (s : State) → HoldsTurn around turn
+      → StaysWithin (after_turn later around turn flow s)
+  turns_after turn Onward around s holds = stays.again turn around s holds
+  turns_after turn (Returned found) around s holds = tt
+  turns_after turn (Jumped label) around s holds = tt
+
+  turns_stay : (head : TypedHead) (body : TypedList) (body_done : State → Outcome Flow)
       (around : Surroundings) → ((t : State) → StaysWithin (body_done t)) → (s : State)
-      → HoldsTurn around (IterateTurn head body)
-      → StaysWithin (iterated later around head body body_done s)
-  iterates head body body_done around body_stays s holds =
+      → HoldsTurn around (LoopTurn head body)
+      → StaysWithin (turned later around head body body_done s)
+  turns_stay (WhileHead condition) body body_done around body_stays s holds =
+      then_do_stays (value later around condition s) _
+      (value_stays later stays condition around s holds.0)
+      (λ found t.
+      either (is_true found)
+      (taking_one t
+      (λ u. then_do (body_done u) (after_turn later around (LoopTurn (WhileHead condition) body))))
+      (Gave Onward t)
+      (takes_one t
+      (λ u. then_do (body_done u) (after_turn later around (LoopTurn (WhileHead condition) body)))
+      (λ u.
+      then_do_stays (body_done u) (after_turn later around (LoopTurn (WhileHead condition) body))
+      (body_stays u)
+      (λ flow v. turns_after (LoopTurn (WhileHead condition) body) flow around v holds)))
+      tt)
+  turns_stay (CountHead head) body body_done around body_stays s holds =
       then_do_stays (value later around head.last s) _
       (value_stays later stays head.last around s (last_of_head head around holds.0))
       (λ last t.
@@ -133,11 +160,19 @@ module _ (later : Later) (stays : LaterStays later) where
       (λ v. then_do_stays (body_done v) (stepped later around head body) (body_stays v)
       (λ flow w. steps_after head body flow around w holds)))))
 
-  turns_after : (turn : Turn) (flow : Flow) (around : Surroundings) (s : State) → HoldsTurn around turn
-      → StaysWithin (after_turn later around turn flow s)
-  turns_after turn Onward around s holds = stays.again turn around s holds
-  turns_after turn (Returned found) around s holds = tt
-  turns_after turn (Jumped label) around s holds = tt
+  -- the variable of an iterative DO gets its first value
+  begins : (head : TypedHead) (turns : State → Outcome Flow) (around : Surroundings)
+      → ((t : State) → StaysWithin (turns t)) → (s : State) → HoldsAll around (calls_in_head head)
+      → StaysWithin (begun later around head turns s)
+  begins (WhileHead condition) turns around stay s holds = stay s
+  begins (CountHead head) turns around stay s holds =
+      then_do_stays (value later around head.first s) _
+      (value_stays later stays head.first around s (first_of_head head around holds))
+      (λ found t.
+      then_do_stays (write_variable around head (as_type head.scalar found) t) _
+      (changes_scalar around.program head.scalar (place_of around head.variable)
+      (as_type head.scalar found) t)
+      (λ done u. stay u))
 
   mutual
     pub statement_stays : (statement : TypedStatement) (around : Surroundings) (s : State)
@@ -196,36 +231,15 @@ module _ (later : Later) (stays : LaterStays later) where
         (else_stays otherwise around t (all_right (HoldsCall around) (calls_in_statement body)
         (calls_in_else otherwise) rest)))
     statement_stays (DoStatement body) around s holds = list_stays body around s holds
-    statement_stays (WhileStatement condition body) around s holds =
-        let one : HoldsAll around (calls_in condition) =
-        all_left (HoldsCall around) (calls_in condition) (calls_in_list body) holds in
+    statement_stays (LoopStatement head body) around s holds =
+        let one : HoldsAll around (calls_in_head head) =
+        all_left (HoldsCall around) (calls_in_head head) (calls_in_list body) holds in
         let two : HoldsAll around (calls_in_list body) =
-        all_right (HoldsCall around) (calls_in condition) (calls_in_list body) holds in
-        then_do_stays (value later around condition s) _ (value_stays later stays condition around s one)
-        (λ found t.
-        either (is_true found)
-        (taking_one t (λ u. then_do (done_list later around body u)
-        (after_turn later around (WhileTurn condition body)))) (Gave Onward t)
-        (takes_one t (λ u. then_do (done_list later around body u)
-        (after_turn later around (WhileTurn condition body)))
-        (λ u.
-        then_do_stays (done_list later around body u) (after_turn later around (WhileTurn condition body))
-        (list_stays body around u two)
-        (λ flow v. turns_after (WhileTurn condition body) flow around v (one, two))))
-        tt)
-    statement_stays (IterateStatement head body) around s holds =
-        let one : HoldsAll around (calls_in_iteration head) =
-        all_left (HoldsCall around) (calls_in_iteration head) (calls_in_list body) holds in
-        let two : HoldsAll around (calls_in_list body) =
-        all_right (HoldsCall around) (calls_in_iteration head) (calls_in_list body) holds in
-        then_do_stays (value later around head.first s) _
-        (value_stays later stays head.first around s (first_of_head head around one))
-        (λ found t.
-        then_do_stays (write_variable around head (as_type head.scalar found) t) _
-        (changes_scalar around.program head.scalar (place_of around head.variable)
-        (as_type head.scalar found) t)
-        (λ done u. iterates head body (λ v. done_list later around body v) around
-        (λ v. list_stays body around v two) u (one, two)))
+        all_right (HoldsCall around) (calls_in_head head) (calls_in_list body) holds in
+        begins head (turned later around head body (done_list later around body)) around
+        (λ t. turns_stay head body (done_list later around body) around
+        (λ u. list_stays body around u two) t (one, two))
+        s one
     statement_stays (CaseStatement choice statements) around s holds =
         then_do_stays (value later around choice s) _
         (value_stays later stays choice around s
@@ -271,21 +285,9 @@ module _ (later : Later) (stays : LaterStays later) where
 
   pub turn_stays : (turn : Turn) (around : Surroundings) (s : State) → HoldsTurn around turn
       → StaysWithin (turn_of later turn around s)
-  turn_stays (WhileTurn condition body) around s holds =
-      then_do_stays (value later around condition s) _ (value_stays later stays condition around s holds.0)
-      (λ found t.
-      either (is_true found)
-      (taking_one t (λ u. then_do (done_list later around body u)
-      (after_turn later around (WhileTurn condition body)))) (Gave Onward t)
-      (takes_one t (λ u. then_do (done_list later around body u)
-      (after_turn later around (WhileTurn condition body)))
-      (λ u.
-      then_do_stays (done_list later around body u) (after_turn later around (WhileTurn condition body))
-      (list_stays body around u holds.1)
-      (λ flow v. turns_after (WhileTurn condition body) flow around v holds)))
-      tt)
-  turn_stays (IterateTurn head body) around s holds =
-      iterates head body (done_list later around body) around (λ t. list_stays body around t holds.1) s holds
+  turn_stays (LoopTurn head body) around s holds =
+      turns_stay head body (done_list later around body) around (λ t. list_stays body around t holds.1)
+      s holds
 
   pub rest_stays : (list : TypedList) (rest : TypedStatements) (around : Surroundings) (s : State)
       → HoldsAll around (calls_in_list list) → HoldsAll around (calls_in_statements rest)

@@ -1,7 +1,7 @@
 -- The calls that are written in a body, by the numbers of the procedures, each as often as it is written, from
 -- left to right (in an assignment those of the value first, as they are made).
 use Rattle.std.specs.Prelude.{ℕ, List, [], ◌∷◌, ◌++◌, Option, Some, None}
-use Rattle.typed_trees.specs.TypedTrees.{TypedExpression, NumberNode, ValueNode, LocationNode, ListNode, ConversionNode, AssignmentNode, UnaryNode, BinaryNode, CallNode, FunctionNode, ShiftNode, InputNode, TypedReference, PartOf, Subscript, NoSubscript, At, TypedTarget, StoredIn, SentTo, TypedArguments, NoArguments, MoreArguments, TypedIteration, TypedStatement, LabelStatement, NullStatement, AssignmentStatement, CallStatement, MoveStatement, ReturnStatement, HaltStatement, GotoStatement, IfStatement, DoStatement, WhileStatement, IterateStatement, CaseStatement, TypedElse, NoElse, ElseStatement, TypedStatements, NoStatements, MoreStatements, TypedList, ListOf}
+use Rattle.typed_trees.specs.TypedTrees.{TypedExpression, NumberNode, ValueNode, LocationNode, ListNode, ConversionNode, AssignmentNode, UnaryNode, BinaryNode, CallNode, FunctionNode, ShiftNode, InputNode, TypedReference, PartOf, Subscript, NoSubscript, At, TypedTarget, StoredIn, SentTo, TypedArguments, NoArguments, MoreArguments, TypedHead, WhileHead, CountHead, TypedStatement, LabelStatement, NullStatement, AssignmentStatement, CallStatement, MoveStatement, ReturnStatement, HaltStatement, GotoStatement, IfStatement, DoStatement, LoopStatement, CaseStatement, TypedElse, NoElse, ElseStatement, TypedStatements, NoStatements, MoreStatements, TypedList, ListOf}
 
 abbrev mutual
   -- the calls in an expression
@@ -43,8 +43,9 @@ abbrev pub calls_in_optional : Option TypedExpression → List ℕ
 calls_in_optional None = []
 calls_in_optional (Some value) = calls_in value
 
-abbrev pub calls_in_iteration : TypedIteration → List ℕ
-calls_in_iteration head = calls_in head.first ++ (calls_in head.last ++ calls_in_optional head.step)
+abbrev pub calls_in_head : TypedHead → List ℕ
+calls_in_head (WhileHead condition) = calls_in condition
+calls_in_head (CountHead head) = calls_in head.first ++ (calls_in head.last ++ calls_in_optional head.step)
 
 abbrev mutual
   -- the calls in a statement
@@ -61,8 +62,7 @@ abbrev mutual
   calls_in_statement (IfStatement condition body otherwise) =
       calls_in condition ++ (calls_in_statement body ++ calls_in_else otherwise)
   calls_in_statement (DoStatement body) = calls_in_list body
-  calls_in_statement (WhileStatement condition body) = calls_in condition ++ calls_in_list body
-  calls_in_statement (IterateStatement head body) = calls_in_iteration head ++ calls_in_list body
+  calls_in_statement (LoopStatement head body) = calls_in_head head ++ calls_in_list body
   calls_in_statement (CaseStatement choice body) = calls_in choice ++ calls_in_statements body
 
   pub calls_in_else : TypedElse → List ℕ

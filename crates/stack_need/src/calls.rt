@@ -1,13 +1,13 @@
 //! The calls that are written in bodies.
 
 ghost use Rattle.std.specs.Prelude.{◌≡◌, [], ◌∷◌, ◌++◌, map, option_map, IfOk, OnOk};
-ghost use Rattle.typed_trees.specs.Views.{arguments_view, else_view, expression_view, iteration_view, list_view, reference_view, statement_view, statements_view, subscript_view, target_view};
-ghost use Rattle.stack_need.specs.Calls.{calls_in, calls_in_arguments, calls_in_else, calls_in_iteration, calls_in_list, calls_in_optional, calls_in_reference, calls_in_statement, calls_in_statements, calls_in_subscript, calls_in_target, calls_in_targets};
+ghost use Rattle.typed_trees.specs.Views.{arguments_view, else_view, expression_view, head_view, list_view, reference_view, statement_view, statements_view, subscript_view, target_view};
+ghost use Rattle.stack_need.specs.Calls.{calls_in, calls_in_arguments, calls_in_else, calls_in_head, calls_in_list, calls_in_optional, calls_in_reference, calls_in_statement, calls_in_statements, calls_in_subscript, calls_in_target, calls_in_targets};
 
 use std::alloc::{AllocError, Global};
 use typed_trees::{
-    TypedAssignment, TypedExpression, TypedIf, TypedIteration, TypedList, TypedMove,
-    TypedReference, TypedStatement, TypedSubscript, TypedTarget,
+    TypedAssignment, TypedExpression, TypedHead, TypedIf, TypedList, TypedMove, TypedReference,
+    TypedStatement, TypedSubscript, TypedTarget,
 };
 
 /// The calls that are written in a body.
@@ -184,15 +184,19 @@ fn step_calls(calls: &mut Vec<u32>, step: &Option<TypedExpression>) -> Result<()
     }
 }
 
-// Adds the calls in the head of an iterative DO.
+// Adds the calls in the head of a loop.
 #[tactic(auto, using(std::proofs::lemmas::List::append_assoc))]
-fn iteration_calls(calls: &mut Vec<u32>, head: &TypedIteration) -> Result<(), AllocError>
-    ensures { OnOk result (calls.new.items ≡ calls.old.items ++ calls_in_iteration
-        (iteration_view head.now)) }
+fn head_calls(calls: &mut Vec<u32>, head: &TypedHead) -> Result<(), AllocError>
+    ensures { OnOk result (calls.new.items ≡ calls.old.items ++ calls_in_head (head_view head.now)) }
 {
-    expression_calls(calls, &head.first)?;
-    expression_calls(calls, &head.last)?;
-    step_calls(calls, &head.step)
+    match head {
+        TypedHead::While(condition) => expression_calls(calls, condition),
+        TypedHead::Count(iteration) => {
+            expression_calls(calls, &iteration.first)?;
+            expression_calls(calls, &iteration.last)?;
+            step_calls(calls, &iteration.step)
+        }
+    }
 }
 
 // Adds the calls in a statement.
@@ -216,12 +220,8 @@ fn statement_calls(calls: &mut Vec<u32>, statement: &TypedStatement) -> Result<(
         TypedStatement::Return(value) => result_calls(calls, value),
         TypedStatement::If(branch) => if_calls(calls, branch),
         TypedStatement::Do(body) => list_calls(calls, body),
-        TypedStatement::While(turns) => {
-            expression_calls(calls, &turns.condition)?;
-            list_calls(calls, &turns.body)
-        }
-        TypedStatement::Iterate(turns) => {
-            iteration_calls(calls, &turns.head)?;
+        TypedStatement::Loop(turns) => {
+            head_calls(calls, &turns.head)?;
             list_calls(calls, &turns.body)
         }
         TypedStatement::Case(choice) => {

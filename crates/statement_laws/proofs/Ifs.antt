@@ -50,22 +50,7 @@ goto_form :
     → GoesTo at label tree
 goto_form at label (statements.Goto number) bound tree same (IsGoto {label = name} names) =
     record { number = number; name = name; is = refl; label_is = sym (same_Some (body_label at.body number) label same); names = names }
-goto_form at label statements.Null bound tree same form = let never : ⊥ = cc in absurd never
-goto_form at label (statements.Label number) bound tree same form = let never : ⊥ = cc in absurd never
-goto_form at label (statements.Assignment targets value) bound tree same form =
-    let never : ⊥ = cc in absurd never
-goto_form at label (statements.Call procedure arguments) bound tree same form =
-    let never : ⊥ = cc in absurd never
-goto_form at label (statements.Move count source destination) bound tree same form =
-    let never : ⊥ = cc in absurd never
-goto_form at label (statements.Return value) bound tree same form = let never : ⊥ = cc in absurd never
-goto_form at label statements.Halt bound tree same form = let never : ⊥ = cc in absurd never
-goto_form at label (statements.If condition then_part else_part) bound tree same form =
-    let never : ⊥ = cc in absurd never
-goto_form at label (statements.Do list) bound tree same form = let never : ⊥ = cc in absurd never
-goto_form at label (statements.While condition list) bound tree same form = let never : ⊥ = cc in absurd never
-goto_form at label (statements.Iterate head list) bound tree same form = let never : ⊥ = cc in absurd never
-goto_form at label (statements.Case choice list) bound tree same form = let never : ⊥ = cc in absurd never
+goto_form at label of bound tree same form = let never : ⊥ = cc in absurd never
 
 goes_to :
     (at : BodyContext) (label : LabelNumber) (of : StatementNumber) (bound : ℕ) (tree : TypedStatement)

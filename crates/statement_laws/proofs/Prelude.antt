@@ -5,17 +5,17 @@ pub use Rattle.mem80.proofs.{MemoryLemmas.{byte_small}, Numbers.{at_most_more, o
 pub use Rattle.mem80.specs.{Memory.{IsMemory, byte_at}, Range.{IsIn}, declared.memory.TheConstants.{MEMORY_SIZE}}
 pub use Rattle.ports.specs.{Events.{write_event}, declared.event.Event.{Event}}
 pub use Rattle.trees.specs.{declared.declaration.ScalarType.{ScalarType, TheVariants.{Address, Byte}}, declared.expression.BinaryOperator.{BinaryOperator}, declared.expression.UnaryOperator.TheVariants.{Negate, Not}}
-pub use Rattle.typed_trees.specs.{Charge.{count_of_arguments, height_of, height_of_arguments, height_of_else, height_of_list, height_of_optional, height_of_reference, height_of_statement, height_of_statements, height_of_target, height_of_targets}, ExpressionTypes.{type_of}, Jumps.{ListStands, ListsStand, ListsStandInCases, ListsStandInElse, ListsStandInStatements}, ObjectParts.{IsScalar, IsScalarOf}, Sizes.{size_of_scalar}, TypedTrees.{BasedOn, BinaryNode, DoStatement, ElseStatement, Elsewhere, GotoStatement, Home as TypedHome, InConstants, InData, InFrame, IterateStatement, LabelStatement, ListOf, MoreStatements, MoveStatement, NoElse, NoStatements, NoSubscript, Nowhere, ObjectType, PartOf, Placed, ScalarObject, SentTo, StoredIn, Subscript, TypedElse, TypedExpression, TypedIteration, TypedList, TypedModule, TypedObject, TypedReference, TypedStatement, TypedStatements, TypedTarget, ValueNode, WhileStatement}, WellTyped.{Counts, HasType, IsReturned, IsSeen, LiesFor, RefersToScalar, TypesHold, TypesHoldIn, TypesHoldInElse, TypesHoldInHead, TypesHoldInList, TypesHoldInReference, TypesHoldInStatements, TypesHoldInSubscript, TypesHoldInTarget, TypesHoldInTargets, Within, WithinMain, WithinProcedure}}
+pub use Rattle.typed_trees.specs.{Charge.{count_of_arguments, height_of, height_of_arguments, height_of_else, height_of_list, height_of_optional, height_of_reference, height_of_statement, height_of_statements, height_of_target, height_of_targets}, ExpressionTypes.{type_of}, Jumps.{ListStands, ListsStand, ListsStandInCases, ListsStandInElse, ListsStandInStatements}, ObjectParts.{IsScalar, IsScalarOf}, Sizes.{size_of_scalar}, TypedTrees.{BasedOn, BinaryNode, DoStatement, ElseStatement, Elsewhere, GotoStatement, Home as TypedHome, InConstants, InData, InFrame, LabelStatement, ListOf, LoopStatement, MoreStatements, MoveStatement, NoElse, NoStatements, NoSubscript, Nowhere, ObjectType, PartOf, Placed, ScalarObject, SentTo, StoredIn, Subscript, TypedElse, TypedExpression, TypedIteration, TypedList, TypedModule, TypedObject, TypedReference, TypedStatement, TypedStatements, TypedTarget, ValueNode}, WellTyped.{Counts, HasType, IsReturned, IsSeen, LiesFor, RefersToScalar, TypesHold, TypesHoldIn, TypesHoldInElse, TypesHoldInHead, TypesHoldInList, TypesHoldInReference, TypesHoldInStatements, TypesHoldInSubscript, TypesHoldInTarget, TypesHoldInTargets, Within, WithinMain, WithinProcedure}}
 pub use Rattle.layout.proofs.Meant.{same_scalars as scalars_agree}
 pub use Rattle.meaning.proofs.{AgreementStatements.{again_is, onto_is}, LabelPlaces.{rest_at}}
-pub use Rattle.meaning.specs.{Access.{InMemory, InTheFrame, Place as SourcePlace, home_of, is_constant, is_declared, next_place, place_in, place_of, read_byte, read_scalar, write_byte, write_scalar}, Meaning.{Displacement, IterateTurn, Later, WhileTurn, after_turn, based_place, called_for, callee_in, caught_in, computed, displaced, displacement, done, done_all, done_case, done_else, done_list, dropped, going_on, iterated, later_by, located, moved, next_turn, no_displacement, rest_from, rest_of, returned, step_value, stepped, stored, stored_in_each, turn_of, value, values, write_variable}, Outcomes.{Ended, Flow, Gave, Jumped, More, Onward, Outcome, Outside, Program, Returned, State as SourceState, Stopped, taking_one, then_do}, Values.{as_type, is_true, result_of, values_of}, declared.reason.Reason.{Reason, TheVariants.{Byte as UndeclaredByte, Constant}}}
+pub use Rattle.meaning.specs.{Access.{InMemory, InTheFrame, Place as SourcePlace, home_of, is_constant, is_declared, next_place, place_in, place_of, read_byte, read_scalar, write_byte, write_scalar}, Meaning.{Displacement, Later, LoopTurn, Turn, after_turn, based_place, called_for, callee_in, caught_in, computed, displaced, displacement, done, done_all, done_case, done_else, done_list, dropped, going_on, iterated, later_by, located, moved, next_turn, no_displacement, rest_from, rest_of, returned, step_value, stepped, stored, stored_in_each, turn_of, value, values, write_variable}, Outcomes.{Ended, Flow, Gave, Jumped, More, Onward, Outcome, Outside, Program, Returned, State as SourceState, Stopped, taking_one, then_do}, Values.{as_type, is_true, result_of, values_of}, declared.reason.Reason.{Reason, TheVariants.{Byte as UndeclaredByte, Constant}}}
 pub use Rattle.isa8080.proofs.{EncodingLemmas.{word_of_bytes}, Words.{low_byte_small, wrapped_once, wrapped_small}}
 pub use Rattle.isa8080.specs.{Act.{act}, Arithmetic.{decrement_of, increment_of, operate, subtract_of}, Code.{bytes_of}, Flags.{bit}, State.{HoldBytes, Registers, State, carries, high_byte, holds, low_byte, with_popped, word, wrap}, Step.{running}, declared.instr.Condition.{Condition, TheVariants.{Carry, NoCarry, NotZero, Zero}}, declared.instr.Instr.{Instr, TheVariants.{Accumulate, AccumulateImmediate, Call, Dad, Dcr, Hlt, Inr, Inx, MovToMemory, Mvi, Nop, Pchl, Pop, Push, Xchg}}, declared.instr.Operand.TheVariants.{M}, declared.instr.Operation.{Operation, TheVariants.{Add, AddWithCarry, Compare, Or, Subtract, SubtractWithBorrow}}, declared.instr.Pair.TheVariants.{Bc, De, Hl}, declared.instr.Register.TheVariants.{A, D, E, H, L}, declared.instr.StackPair.TheVariants.{StackBc, StackDe, StackHl}, declared.registers.Flags.{Flags}, declared.registers.Status.TheVariants.{Halted, Running}}
 unfoldable pub use Rattle.isa8080.specs.Step.{step_of}
 pub use Rattle.asm8080.proofs.{Calls.{pushed as pushed_word}, Kept.{byte_kept, byte_put, bytes_alike, stands_in}, RunLaws.{comes_on}, Spending.{same_after}}
 pub use Rattle.asm8080.specs.{Standing.{InstructionStands, Keeps, below, size_of_instruction}, declared.item.Item.{Item}, declared.item.Reference.TheVariants.{AtLabel}, declared.item.WordForm.{WordForm, TheVariants.{CallTo, Jump, JumpWhere, LoadA, LoadHl, LoadPair, StoreHl}}}
 pub use Rattle.runtime8080.specs.{internal.Routines.{BlockMisses, HasReturned, IsInBlock, Returns, copied}, declared.routine.Routine.TheVariants.{Move}}
-pub use Rattle.treecode.specs.{internal.Homes.{place_after}, internal.Lowered.{AreMoreStatements, AreNoStatements, AreStatements, AreTargets, IsAbsent, IsAssignment, IsBinary, IsCall, IsCallOf, IsCase, IsConstantList, IsConversion, IsDo, IsElse, IsEmbedded, IsExpression, IsExpressionIn, IsForm, IsFunction, IsGoto, IsHalt, IsIf, IsIndex, IsInput, IsIterate, IsIteration, IsLabel, IsList, IsListOf, IsLocation, IsMove, IsNoElse, IsNoValue, IsNull, IsNumber, IsOptional, IsPart, IsReference, IsReturn, IsSent, IsShift, IsSomeElse, IsSomeValue, IsStatement, IsStatementForm, IsStatementNode, IsStored, IsSubscript, IsTarget, IsUnary, IsValue, IsWhile, MoreTargets, NoTargets}, internal.Nodes.{Nodes, home_at, nodes_of}, internal.Queries.{item, statement, target as target_at}, internal.Traits.{keeps_both, keeps_of_part, reference_is_quiet, subscript_is_quiet}, declared.expression.Expression.{Expression}, declared.expression.ExpressionForm.{ExpressionForm}, declared.expression.ExpressionNumber.{ExpressionNumber}, declared.lists.Range.{Range}, declared.place.Home.{Home}, declared.place.Location.{Location}, declared.place.Place.{Place}, declared.procedure.ProcedureKind.{ProcedureKind}, declared.reference.Reference.{Reference}, declared.reference.Subscript.{Subscript as IndexNode}, declared.reference.Target.{Target, TheVariants.{Sent, Stored}}, declared.statement.Iteration.{Iteration}, declared.statement.Statement.{Statement}, declared.statement.StatementNumber.{StatementNumber}}
+pub use Rattle.treecode.specs.{internal.Homes.{place_after}, internal.Lowered.{AreMoreStatements, AreNoStatements, AreStatements, AreTargets, IsAbsent, IsAssignment, IsBinary, IsCall, IsCallOf, IsCase, IsConstantList, IsConversion, IsDo, IsElse, IsEmbedded, IsExpression, IsExpressionIn, IsForm, IsFunction, IsGoto, IsHalt, IsIf, IsIndex, IsInput, IsIteration, IsLabel, IsList, IsListOf, IsLocation, IsMove, IsNoElse, IsNoValue, IsNull, IsNumber, IsOptional, IsPart, IsReference, IsReturn, IsSent, IsShift, IsSomeElse, IsSomeValue, IsStatement, IsStatementForm, IsStatementNode, IsStored, IsSubscript, IsTarget, IsUnary, IsValue, MoreTargets, NoTargets}, internal.Nodes.{Nodes, home_at, nodes_of}, internal.Queries.{item, statement, target as target_at}, internal.Traits.{keeps_both, keeps_of_part, reference_is_quiet, subscript_is_quiet}, declared.expression.Expression.{Expression}, declared.expression.ExpressionForm.{ExpressionForm}, declared.expression.ExpressionNumber.{ExpressionNumber}, declared.lists.Range.{Range}, declared.place.Home.{Home}, declared.place.Location.{Location}, declared.place.Place.{Place}, declared.procedure.ProcedureKind.{ProcedureKind}, declared.reference.Reference.{Reference}, declared.reference.Subscript.{Subscript as IndexNode}, declared.reference.Target.{Target, TheVariants.{Sent, Stored}}, declared.statement.Iteration.{Iteration}, declared.statement.Statement.{Statement}, declared.statement.StatementNumber.{StatementNumber}}
 pub use Rattle.treecode_laws.proofs.{Evaluating.{quiet_base, quiet_byte, quiet_gave, quiet_scalar, quiet_then}, FreeNodes.{free_stores_nothing}, Operands.{location_exchanged}}
 pub use Rattle.treecode_laws.specs.{internal.Evaluations.{Answer, AreAlike, AreSame, BothOutside, Fails, Found, GoesOutside, IsQuiet, outcome_of}, internal.Trees.{stores_nothing}}
 pub use Rattle.steps8080.specs.{internal.Facts.{after, after_form, after_word, is_at, no_facts, same_location}, internal.Instructions.{copy, high, load, low, set, with_register}, internal.Queries.{base_after, base_of, location_at as base_location, place_in_memory}, internal.Step.{label_of, plain}, internal.Widths.{word_of}, internal.Writer.{jump_item}, declared.facts.Facts.{Facts}, declared.sites.site.Site.{Site}, declared.step.LabelNumber.{LabelNumber}, declared.step.Part.{Part}, declared.step.Step.{Step, TheVariants.{CallRoutine}}, declared.step.Task.{Task}}

@@ -21,18 +21,7 @@ is_marked at facts (statements.Label number) label from after to stands =
     let marked = mark_first stands in
     let ends = steps_ended marked.rest in
     (marked.lies, ends.same, ends.place)
-is_marked at facts statements.Null label from after to stands = tt
-is_marked at facts (statements.Assignment targets value) label from after to stands = tt
-is_marked at facts (statements.Call procedure arguments) label from after to stands = tt
-is_marked at facts (statements.Move count source destination) label from after to stands = tt
-is_marked at facts (statements.Return value) label from after to stands = tt
-is_marked at facts statements.Halt label from after to stands = tt
-is_marked at facts (statements.Goto number) label from after to stands = tt
-is_marked at facts (statements.If condition then_part else_part) label from after to stands = tt
-is_marked at facts (statements.Do list) label from after to stands = tt
-is_marked at facts (statements.While condition list) label from after to stands = tt
-is_marked at facts (statements.Iterate head list) label from after to stands = tt
-is_marked at facts (statements.Case choice list) label from after to stands = tt
+is_marked at facts statement label from after to stands = tt
 
 module _ (at : BodyContext) (sound : IsSoundBody at) (carry : CarryOut at.context)
     (each_does : StatementsDo at) where

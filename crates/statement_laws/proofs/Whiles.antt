@@ -1,11 +1,26 @@
 -- DO WHILE.
-use Rattle.statement_laws.proofs.Prelude.{◌≡◌, ℕ, zero, suc, ◌+◌, ◌-◌, ◌*◌, ◌%◌, ◌<◌, ◌≤◌, max, Bool, true, false, if◌then◌else◌, nat_eq, nat_lt, List, [], ◌∷◌, ◌++◌, Option, Some, None, refl, sym, ap, subst, ◌∙◌, arith, ltb-false, height_of, height_of_list, ListStands, TypedExpression, TypedList, TypedStatements, ListOf, WhileStatement, TypesHold, TypesHoldInList, Later, WhileTurn, after_turn, done, done_list, going_on, value, SourceState, Outcome, Gave, then_do, taking_one, Flow, Onward, Returned, Jumped, is_true, again_is, Nop, Registers, State, AtLabel, Jump, ExpressionNumber, Range, AreNoStatements, AreStatements, IsExpressionIn, IsList, IsListOf, IsWhile, HasRoom, IsReady, IsThere, Does, at_place, plain_step, word_step, after_step, does_without_step, then_does, no_facts_hold, Facts, LabelNumber, after_form, no_facts, label_of, jump_item, Site, number, knowing, branch, forever_steps, tested_while_steps, jump, mark, nth_label, Here, jump_on_steps, site_of, statement_steps, nodes_in, StepsStand, JumpThere, NoneThere, BranchDoes, Goes, Know, PartDoes, Parts, Passes, number_means, does_same, loaded_in, script_of, Behaves, BodyContext, IsSoundBody, Leaves, ListDoes, StatementStands, room_for}
+use Rattle.statement_laws.proofs.Prelude.{◌≡◌, ℕ, zero, suc, ◌+◌, ◌-◌, ◌*◌, ◌%◌, ◌<◌, ◌≤◌, max, Bool, true, false, if◌then◌else◌, nat_eq, nat_lt, List, [], ◌∷◌, ◌++◌, Option, Some, None, refl, sym, ap, subst, ◌∙◌, arith, ltb-false, height_of, height_of_list, ListStands, TypedExpression, TypedList, TypedStatements, ListOf, LoopStatement, TypesHold, TypesHoldInList, Later, LoopTurn, after_turn, done, done_list, going_on, value, SourceState, Outcome, Gave, then_do, taking_one, Flow, Onward, Returned, Jumped, is_true, again_is, Nop, Registers, State, AtLabel, Jump, ExpressionNumber, Range, AreNoStatements, AreStatements, IsExpressionIn, IsList, IsListOf, HasRoom, IsReady, IsThere, Does, at_place, plain_step, word_step, after_step, does_without_step, then_does, no_facts_hold, Facts, LabelNumber, after_form, no_facts, label_of, jump_item, Site, number, knowing, branch, forever_steps, tested_while_steps, jump, mark, nth_label, Here, jump_on_steps, site_of, statement_steps, nodes_in, StepsStand, JumpThere, NoneThere, BranchDoes, Goes, Know, PartDoes, Parts, Passes, number_means, does_same, loaded_in, script_of, Behaves, BodyContext, IsSoundBody, Leaves, ListDoes, StatementStands, room_for}
+use Rattle.typed_trees.specs.TypedTrees.{WhileHead}
+use Rattle.treecode.specs.internal.Lowered.{IsWhile}
 use Rattle.treecode.specs.declared.statement.Statement.TheVariants as statements
 use Rattle.statements8080.specs.declared.plan.Planned.TheVariants as planned
 use Rattle.statement_laws.proofs.FirstSteps.{Stand, steps_ended, going, jump_first, jump_on_first, list_first, mark_first, part_first, plain_first, reaches_first}
 use Rattle.statement_laws.proofs.Lists.{goes_then}
 use Rattle.statement_laws.proofs.Outcomes.{Between, does_later, ends_onward, leaves_later, taking_does}
 use Rattle.statement_laws.proofs.Simple.{FormDoes}
+
+-- what it means from its test on, after a turn, and from a turn on
+abbrev whiled : BodyContext → TypedExpression → TypedList → SourceState → Outcome Flow
+whiled at tree body s =
+    done at.context.later at.context.activation.around (LoopStatement (WhileHead tree) body) s
+
+abbrev after_while : BodyContext → TypedExpression → TypedList → Flow → SourceState → Outcome Flow
+after_while at tree body flow s =
+    after_turn at.context.later at.context.activation.around (LoopTurn (WhileHead tree) body) flow s
+
+abbrev while_turn : BodyContext → TypedExpression → TypedList → SourceState → Outcome Flow
+while_turn at tree body u =
+    then_do (done_list at.context.later at.context.activation.around body u) (after_while at tree body)
 
 module _
     (at : BodyContext) (sound : IsSoundBody at) (base : List ℕ) (last : Here) (to : ℕ) (need : ℕ)
@@ -20,12 +35,11 @@ module _
     (room : HasRoom at.context.activation at.context.activation.level 0 need)
   where
     abbrev loop : SourceState → Outcome Flow
-    loop s = done at.context.later at.context.activation.around (WhileStatement tree body) s
+    loop s = whiled at tree body s
 
     -- a turn of the loop and what follows it
     abbrev turn : SourceState → Outcome Flow
-    turn u = then_do (done_list at.context.later at.context.activation.around body u)
-        (after_turn at.context.later at.context.activation.around (WhileTurn tree body))
+    turn u = while_turn at tree body u
 
     -- the end of a turn
     pub turn_ends :
@@ -40,19 +54,19 @@ module _
         → Does (loaded_in at.context) v.budget 0 (at_place place r memory v.events) (loop v)
         (Leaves at base to last before))
         → Does (loaded_in at.context) v.budget 0 end
-        (after_turn at.context.later at.context.activation.around (WhileTurn tree body) flow v)
+        (after_while at tree body flow v)
         (Leaves at base to last before)
     turn_ends middle place before Onward v end below less leaves rest =
         let comes = leaves.comes in
         let number = sound.number in
         subst (λ (later : Later). Does (loaded_in at.context) v.budget 0 end
-        (later.again (WhileTurn tree body) at.context.activation.around v)
+        (later.again (LoopTurn (WhileHead tree) body) at.context.activation.around v)
         (Leaves at base to last before)) (sym sound.later)
         (does_same _
-        (again_is sound.bound (WhileTurn tree body) at.context.activation.around v
+        (again_is sound.bound (LoopTurn (WhileHead tree) body) at.context.activation.around v
         (omega (arith, less, below, number)))
         (subst (λ (later : Later). Does (loaded_in at.context) v.budget 0 end
-        (done later at.context.activation.around (WhileStatement tree body) v)
+        (done later at.context.activation.around (LoopStatement (WhileHead tree) body) v)
         (Leaves at base to last before)) sound.later
         (subst (λ (s : State). Does (loaded_in at.context) v.budget 0 s (loop v)
         (Leaves at base to last before)) (sym comes.is_at)
@@ -241,13 +255,13 @@ tested_does at before condition list label from after to sound stands bound _
         → u.budget ≤ s.budget
         → IsReady at.context.activation at.context.activation.level base u.memory u.frame now kept
         → Does (loaded_in at.context) u.budget 0 (at_place pt now kept u.events)
-        (done at.context.later at.context.activation.around (WhileStatement test body) u)
+        (whiled at test body u)
         (Leaves at base to after s.budget))
         → Does (loaded_in at.context) s.budget 0 (at_place from r memory s.events)
-        (done at.context.later at.context.activation.around (WhileStatement test body) s)
+        (whiled at test body s)
         (Leaves at base to after s.budget))
         → Does (loaded_in at.context) s.budget 0 (at_place from r memory s.events)
-        (done at.context.later at.context.activation.around (WhileStatement test body) s)
+        (whiled at test body s)
         (Leaves at base to after s.budget)
     from_list here place goes stand rest =
         let top = mark_first stand in
@@ -272,7 +286,7 @@ tested_does at before condition list label from after to sound stands bound _
         ∷ branch condition (label_of label) true
         ∷ planned.Reaches true ∷ [])) after to
         → Does (loaded_in at.context) s.budget 0 (at_place from r memory s.events)
-        (done at.context.later at.context.activation.around (WhileStatement test body) s)
+        (whiled at test body s)
         (Leaves at base to after s.budget)
     by true some stand =
         let entry = jump_first stand in
@@ -290,15 +304,14 @@ tested_does at before condition list label from after to sound stands bound _
         subst (λ (given : Outcome Flow). Does (loaded_in at.context) s.budget 0
         (at_place from r memory s.events)
         (then_do given
-        (λ flow t. going_on flow (λ u. done at.context.later at.context.activation.around
-        (WhileStatement test body) u) t))
+        (λ flow t. going_on flow (λ u. whiled at test body u) t))
         (Leaves at base to after s.budget)) (empty_list at bound list body s none is_list)
         (then_does
         (list_does bound body is_list types.1 lists base s r memory below
         (room_for (2 + 2 * height_of_list body) (omega arith) room) ready no_facts_hold)
         (λ flow t end leaves less.
         goes_then at base h pt after to s.budget
-        (λ u. done at.context.later at.context.activation.around (WhileStatement test body) u)
+        (λ u. whiled at test body u)
         flow t end less leaves
         (λ now kept goes there known. test_does t now kept less there))))
 
@@ -316,7 +329,7 @@ forever_does :
     → is_true n ≡ true
     → ((s : SourceState) → value at.context.later at.context.activation.around test s ≡ Gave n s)
     → Behaves at before (2 + 2 * max (height_of test) (height_of_list body)) from after to
-    (done at.context.later at.context.activation.around (WhileStatement test body))
+    (whiled at test body)
 forever_does at before list label from after to bound n condition test body sound stand is is_list types
     list_types lists holds value_is base s r memory below room ready known =
     let need : ℕ = 2 + 2 * max (height_of test) (height_of_list body) in
@@ -329,8 +342,7 @@ forever_does at before list label from after to bound n condition test body soun
     (loop_is at sound base after to need bound test body condition list is is_list types list_types lists
     (omega arith) (omega arith)
     room (from + 1) listed.middle (label_of label) listed.after n top.lies listed.does jumps holds value_is s)
-    (taking_does s (λ u. then_do (done_list at.context.later at.context.activation.around body u)
-    (after_turn at.context.later at.context.activation.around (WhileTurn test body)))
+    (taking_does s (while_turn at test body)
     (plain_step (script_of at.context) at.context.activation Nop [] from (from + 1) r memory s.events sound.sound.lies
     ready.shares.code entry.there)
     refl refl
@@ -363,7 +375,7 @@ while_does at before condition list label from after to sound stands bound _
         → is_true n ≡ holds
         → Stand at (going true before) None from (if holds then forever_steps list label else []) after to
         → Does (loaded_in at.context) s.budget 0 (at_place from r memory s.events)
-        (done at.context.later at.context.activation.around (WhileStatement test body) s)
+        (whiled at test body s)
         (Leaves at base to after s.budget)
     by_number n true same holds stand =
         forever_does at before list label from after to bound n condition test body sound stand is is_list
@@ -372,14 +384,8 @@ while_does at before condition list label from after to sound stands bound _
     by_number n false same holds stand =
         does_same (Gave Onward s)
         (ap (λ (found : Outcome ℕ). then_do found
-        (λ m t. if is_true m
-        then taking_one t (λ u. then_do (done_list at.context.later at.context.activation.around body u)
-        (after_turn at.context.later at.context.activation.around (WhileTurn test body)))
-        else Gave Onward t)) (given n same s)
-        ∙ ap (λ (b : Bool). if b
-        then taking_one s (λ u. then_do (done_list at.context.later at.context.activation.around body u)
-        (after_turn at.context.later at.context.activation.around (WhileTurn test body)))
-        else Gave Onward s) holds)
+        (λ m t. if is_true m then taking_one t (while_turn at test body) else Gave Onward t)) (given n same s)
+        ∙ ap (λ (b : Bool). if b then taking_one s (while_turn at test body) else Gave Onward s) holds)
         (ends_onward (steps_ended stand) refl
         (record { below = below; room = room; ready = ready; known = known }))
 
@@ -391,10 +397,10 @@ while_does at before condition list label from after to sound stands bound _
           | None ↦ tested_while_steps condition list label
         ]) after to
         → Does (loaded_in at.context) s.budget 0 (at_place from r memory s.events)
-        (done at.context.later at.context.activation.around (WhileStatement test body) s)
+        (whiled at test body s)
         (Leaves at base to after s.budget)
     by (Some n) same stand = by_number n (is_true n) same refl stand
     by None same stand =
-        tested_does at before condition list label from after to sound stand bound (WhileStatement test body)
-        (IsWhile is is_list)
+        tested_does at before condition list label from after to sound stand bound
+        (LoopStatement (WhileHead test) body) (IsWhile is is_list)
         types lists base s r memory below room ready known

@@ -3,9 +3,9 @@ pub use Rattle.std.proofs.{Common.{Bool, Err, IfSome, List, None, Ok, Option, Re
 pub use Rattle.std.specs.{List.{AllByRecursion}, Prelude.{IfOk, IsErrAnd}, Str.{bytes_eq}}
 pub use Rattle.failure.specs.{Failure.{IfFault}, declared.Failure.{Failure}}
 pub use Rattle.words.specs.{Spelling.{Lexeme}, Strings.{unquoted}, declared.vocabulary.Mark.{Mark, TheVariants.{Comma, LeftParenthesis, Period, RightParenthesis}}, declared.vocabulary.ReservedWord.{ReservedWord, TheVariants.{Declare, End, Literally}}}
-pub use Rattle.trees.specs.{Trees.{ArgumentTrees, AssignmentNode, AssignmentStatement, AtTree, BinaryNode, CallStatement, CaseStatement, ConstantLeaf, ConstantOrigin, ConstantTree, DeclarationTree, DeclarationTrees, DeclareTree, DoStatement, ElementTree, ElseStatement, ElseTree, ExpressionTree, GotoStatement, GroupSubject, HaltStatement, HeadingTree, IfStatement, ItemElement, ItemTree, ItemTypeTree, IterateStatement, IterationTree, LabelledStatement, ListLeaf, LiterallyElement, LocationLeaf, LocationOrigin, MemberOf, MemberTree, ModuleTree, MoreArguments, MoreDeclarations, MoreStatements, NoArguments, NoDeclarations, NoElse, NoMember, NoStatements, NullStatement, NumberConstant, OffsetTree, OriginTree, ParenthesizedNode, ProcedureTree, ReferenceLeaf, ReferenceTo, ReferenceTree, RestrictedTree, ReturnStatement, ScalarItem, SingleSubject, StatementKindTree, StatementTree, StatementTrees, StringConstant, StringTree, StructureItem, SubjectTree, UnaryNode, ValueListTree, WhileStatement}, internal.Views.{argument_trees, constant_tree, declaration_tree, declaration_trees, expression_tree, module_tree, offset_tree, reference_tree, statement_tree, statement_trees}, declared.declaration.Dimension.{Dimension, TheVariants.{Count, Implied}}, declared.declaration.Linkage.{Linkage, TheVariants.{External, Public}}, declared.declaration.Member.{Member}, declared.declaration.Offset.{Offset}, declared.declaration.ScalarType.{ScalarType, TheVariants.{Address, Byte}}, declared.declaration.Sign.{Sign, TheVariants.{Minus, Plus}}, declared.declaration.Storage.{Storage, TheVariants.{Data, Initial}}, declared.expression.BinaryOperator.{BinaryOperator, TheVariants.{Add, And, Divide, Equal, Greater, GreaterOrEqual, Less, LessOrEqual, Modulo, Multiply, Or, Subtract, Unequal, Xor}}, declared.expression.Expression.{Expression}, declared.expression.Reference.{Reference}, declared.expression.UnaryOperator.{UnaryOperator, TheVariants.{Negate, Not}}, declared.identifier.Identifier.{Identifier}, declared.identifier.Number.{Number}, declared.identifier.Place.{Place}, declared.module.Module.{Module}, declared.statement.Declaration.{Declaration}, declared.statement.Statement.{Statement}}
+pub use Rattle.trees.specs.{Trees.{ArgumentTrees, AssignmentNode, AssignmentStatement, AtTree, BinaryNode, CallStatement, CaseStatement, ConstantLeaf, ConstantOrigin, ConstantTree, CountHead, DeclarationTree, DeclarationTrees, DeclareTree, DoStatement, ElementTree, ElseStatement, ElseTree, ExpressionTree, GotoStatement, GroupSubject, HaltStatement, HeadingTree, IfStatement, ItemElement, ItemTree, ItemTypeTree, IterationTree, LabelledStatement, ListLeaf, LiterallyElement, LocationLeaf, LocationOrigin, LoopHeadTree, LoopStatement, MemberOf, MemberTree, ModuleTree, MoreArguments, MoreDeclarations, MoreStatements, NoArguments, NoDeclarations, NoElse, NoMember, NoStatements, NullStatement, NumberConstant, OffsetTree, OriginTree, ParenthesizedNode, ProcedureTree, ReferenceLeaf, ReferenceTo, ReferenceTree, RestrictedTree, ReturnStatement, ScalarItem, SingleSubject, StatementKindTree, StatementTree, StatementTrees, StringConstant, StringTree, StructureItem, SubjectTree, UnaryNode, ValueListTree}, internal.Views.{argument_trees, constant_tree, declaration_tree, declaration_trees, expression_tree, module_tree, offset_tree, reference_tree, statement_tree, statement_trees}, declared.declaration.Dimension.{Dimension, TheVariants.{Count, Implied}}, declared.declaration.Linkage.{Linkage, TheVariants.{External, Public}}, declared.declaration.Member.{Member}, declared.declaration.Offset.{Offset}, declared.declaration.ScalarType.{ScalarType, TheVariants.{Address, Byte}}, declared.declaration.Sign.{Sign, TheVariants.{Minus, Plus}}, declared.declaration.Storage.{Storage, TheVariants.{Data, Initial}}, declared.expression.BinaryOperator.{BinaryOperator, TheVariants.{Add, And, Divide, Equal, Greater, GreaterOrEqual, Less, LessOrEqual, Modulo, Multiply, Or, Subtract, Unequal, Xor}}, declared.expression.Expression.{Expression}, declared.expression.Reference.{Reference}, declared.expression.UnaryOperator.{UnaryOperator, TheVariants.{Negate, Not}}, declared.identifier.Identifier.{Identifier}, declared.identifier.Number.{Number}, declared.identifier.Place.{Place}, declared.module.Module.{Module}, declared.statement.Declaration.{Declaration}, declared.statement.Statement.{Statement}}
 pub use Rattle.grammar.proofs.Derivations.{arguments-derived, arguments-spelled, expression-derived, expression-spelled, reference-spelled, targets-derived, targets-spelled}
-pub use Rattle.grammar.specs.{Derivation.{Derives, DerivesArguments, DerivesAtMostOne, DerivesButForDepth, DerivesButForEndName, DerivesDeclaration, DerivesDeclarations, DerivesExpression, DerivesKind, DerivesModule, DerivesReference, DerivesStatement, DerivesStatements, DerivesTargets, assignment as assignment_line, call as call_line, declare as declare_line, do_case, do_while, goto as goto_line, halt, halt as halt_line, if_then, if_then_else, iterative_do as iterative_do_line, iterative_do_by, labelled, last_target, next_declaration, next_statement, next_target, no_arguments, no_declaration, no_statement, null, procedure as procedure_line, return, return_value as return_value_line, simple_do as simple_do_line, some_arguments, unlabelled, whole, whole_module as module_line, with_member}, Forms.{IsElement, IsItem, IsItemType, IsNotEmpty, IsSubject, IsValueList, ends_in_open_if, expression_level, is_open_if, level_of, negation_level, primary_level, sign_level}, Nesting.{DeclarationEndsMatch, DeclarationsEndsMatch, IsEndName, KindEndsMatch, ModuleEndsMatch, StatementEndsMatch, StatementsEndsMatch, arguments_height, declaration_height, declarations_height, expression_height, iteration_height, kind_height, member_height, module_height, reference_height, statement_height, statements_height, targets_height}, Spelling.{at_symbols, base_symbols, between_commas, binary_symbol, constant_symbols, count_symbols, dimension_symbols, element_symbols, ending_symbols, heading_symbols, item_symbols, item_type_symbols, linkage_symbols, member_symbols, more_after_commas, name_symbols, names_symbols, offsets_symbols, optional, origin_symbols, parameters_symbols, reentrant_symbols, restricted_symbols, scalar_symbols, sign_symbol, storage_symbol, subject_symbols, value_list_symbols}, Symbols.{MarkSymbol, NameSymbol, NumberSymbol, PlacedSymbol, ReservedSymbol, SemicolonSymbol, StringSymbol, Symbol, UnknownSymbol, reserved_symbol, symbols_of}, declared.TheConstants.{NESTING_LIMIT}, internal.Forms.{AreArguments, IsExpression, IsMember, IsReference, left_level, operand_level_of, unary_level_of}, internal.Spelling.{arguments_symbols, expression_symbols, member_of_symbols, more_arguments_symbols, reference_symbols}}
+pub use Rattle.grammar.specs.{Derivation.{Derives, DerivesArguments, DerivesAtMostOne, DerivesButForDepth, DerivesButForEndName, DerivesDeclaration, DerivesDeclarations, DerivesExpression, DerivesHead, DerivesKind, DerivesModule, DerivesReference, DerivesStatement, DerivesStatements, DerivesTargets, assignment as assignment_line, call as call_line, count_by_head, count_head, declare as declare_line, do_case, do_loop, goto as goto_line, halt, halt as halt_line, if_then, if_then_else, labelled, last_target, next_declaration, next_statement, next_target, no_arguments, no_declaration, no_statement, null, procedure as procedure_line, return, return_value as return_value_line, simple_do as simple_do_line, some_arguments, unlabelled, while_head, whole, whole_module as module_line, with_member}, Forms.{IsElement, IsItem, IsItemType, IsNotEmpty, IsSubject, IsValueList, ends_in_open_if, expression_level, is_open_if, level_of, negation_level, primary_level, sign_level}, Nesting.{DeclarationEndsMatch, DeclarationsEndsMatch, IsEndName, KindEndsMatch, ModuleEndsMatch, StatementEndsMatch, StatementsEndsMatch, arguments_height, declaration_height, declarations_height, expression_height, head_height, iteration_height, kind_height, member_height, module_height, reference_height, statement_height, statements_height, targets_height}, Spelling.{at_symbols, base_symbols, between_commas, binary_symbol, constant_symbols, count_symbols, dimension_symbols, element_symbols, ending_symbols, heading_symbols, item_symbols, item_type_symbols, linkage_symbols, member_symbols, more_after_commas, name_symbols, names_symbols, offsets_symbols, optional, origin_symbols, parameters_symbols, reentrant_symbols, restricted_symbols, scalar_symbols, sign_symbol, storage_symbol, subject_symbols, value_list_symbols}, Symbols.{MarkSymbol, NameSymbol, NumberSymbol, PlacedSymbol, ReservedSymbol, SemicolonSymbol, StringSymbol, Symbol, UnknownSymbol, reserved_symbol, symbols_of}, declared.TheConstants.{NESTING_LIMIT}, internal.Forms.{AreArguments, IsExpression, IsMember, IsReference, left_level, operand_level_of, unary_level_of}, internal.Spelling.{arguments_symbols, expression_symbols, member_of_symbols, more_arguments_symbols, reference_symbols}}
 pub use Rattle.syntax.specs.declared.fault.Fault.{Fault}
 pub use Rattle.syntax.specs.internal.Declarations.{at_of, base, count, dimension, dimension_inside, element_after, element_of, group_element, item_after, item_element, linkage, linkage_of, linkage_then, next_linkage, next_scalar, next_sign, next_storage, offset_then, offsets, origin, parameters, reentrant, reentrant_of, result_of, result_type, scalar, scalar_of, storage_of, structure, subject_of, values_of}
 unfoldable pub use Rattle.syntax.specs.internal.Declarations.{all_offsets, at, element, heading, item, item_type, member, names, restricted, subject, value_list}
@@ -17,4 +17,4 @@ unfoldable pub use Rattle.syntax.specs.internal.Lists.{all_more_items, many}
 pub use Rattle.syntax.specs.internal.Reader.{Cause, OtherEndName, Parser, Reading, TooDeep, Unexpected, at_mark, at_word, constant, mark, mark_number, name, next_constant, next_name, next_semicolon, number, place_of_word, semicolon, string, taken, word, word_number, ◌>>=◌}
 pub use Rattle.syntax.specs.internal.Results.{Fails, FailsBy, Gives, OrMemory}
 pub use Rattle.syntax.specs.internal.Statements.{BlockParser, after_labels, at_semicolon, at_the_end, beginning_at, beginning_of, declarations, declarations_of, end_name, end_of_do, ends_declarations, kind_by, labels_before, module_end, module_head, module_of, otherwise, statement_by, statements, statements_of, step}
-unfoldable pub use Rattle.syntax.specs.internal.Statements.{assignment, block, body_of_do, call, case_do, conditional, declaration, declare, declare_or, do_statement, ending, goto, iteration, iterative_do, procedure, return_value, simple_do, statement, while_do, whole_module}
+unfoldable pub use Rattle.syntax.specs.internal.Statements.{assignment, block, body_of_do, call, case_do, conditional, declaration, declare, declare_or, do_statement, ending, goto, iteration, loop_do, loop_head, procedure, return_value, simple_do, statement, whole_module}

@@ -1,6 +1,6 @@
 -- Each statement and each declaration is derived from a symbol at least.
-use Rattle.syntax.proofs.Prelude.{◌≤◌, ◌<◌, ℕ, List, ◌∷◌, length, Option, Some, None, ap, arith, Identifier, DerivesExpression, DerivesReference, DerivesArguments, DerivesTargets, last_target, next_target, DerivesStatement, labelled, unlabelled, DerivesKind, null, return, halt, if_then, if_then_else, do_while, iterative_do_by, do_case, DerivesStatements, no_statement, next_statement, DerivesDeclaration, DerivesDeclarations, no_declaration, next_declaration, element_symbols, ending_symbols, Symbol, SemicolonSymbol, ExpressionTree, ReferenceTree, ArgumentTrees, StatementTree, StatementKindTree, StatementTrees, DeclarationTree, DeclarationTrees, expression-spelled, reference-spelled, arguments-spelled}
-use Rattle.grammar.specs.Derivation.{assignment, call, return_value, goto, simple_do, iterative_do, declare, procedure}
+use Rattle.syntax.proofs.Prelude.{◌≤◌, ◌<◌, ℕ, List, ◌∷◌, length, Option, Some, None, ap, arith, Identifier, DerivesExpression, DerivesReference, DerivesArguments, DerivesTargets, last_target, next_target, DerivesStatement, labelled, unlabelled, DerivesKind, null, return, halt, if_then, if_then_else, DerivesHead, while_head, count_head, count_by_head, do_loop, do_case, DerivesStatements, no_statement, next_statement, DerivesDeclaration, DerivesDeclarations, no_declaration, next_declaration, element_symbols, ending_symbols, Symbol, SemicolonSymbol, ExpressionTree, ReferenceTree, ArgumentTrees, LoopHeadTree, StatementTree, StatementKindTree, StatementTrees, DeclarationTree, DeclarationTrees, expression-spelled, reference-spelled, arguments-spelled}
+use Rattle.grammar.specs.Derivation.{assignment, call, return_value, goto, simple_do, declare, procedure}
 use Rattle.syntax.proofs.DeclarationLaws.{heading-reads, heading-shrinks}
 use Rattle.syntax.proofs.ExpressionLaws.{expression-long, reference-long, arguments-long}
 use Rattle.syntax.proofs.DeclarationItems.{between_commas-lengthens, element-lengthens}
@@ -25,6 +25,12 @@ targets-shorter : {s r : List Symbol} {t : List ReferenceTree} → DerivesTarget
 targets-shorter (last_target d) = reference-shorter d
 targets-shorter (next_target d ds) = omega (arith, reference-shorter d, targets-shorter ds)
 
+head-shorter : {s r : List Symbol} {t : LoopHeadTree} → DerivesHead s t r → length r < length s
+head-shorter (while_head d) = omega (arith, expression-shorter d)
+head-shorter (count_head d₁ d₂) = omega (arith, expression-shorter d₁, expression-shorter d₂)
+head-shorter (count_by_head d₁ d₂ d₃) =
+    omega (arith, expression-shorter d₁, expression-shorter d₂, expression-shorter d₃)
+
 mutual
   pub statement-shorter : {s r : List Symbol} {t : StatementTree}
       → DerivesStatement s t r
@@ -44,18 +50,7 @@ mutual
   kind-shorter (if_then_else d₁ d₂ e d₃) =
       omega (arith, expression-shorter d₁, statement-shorter d₂, statement-shorter d₃)
   kind-shorter (simple_do d₁ d₂) = omega (arith, declarations-shorter d₁, statements-shorter d₂)
-  kind-shorter (do_while d₁ d₂) = omega (arith, expression-shorter d₁, statements-shorter d₂)
-  kind-shorter (iterative_do d₁ d₂ d₃) =
-      omega (arith, expression-shorter d₁, expression-shorter d₂, statements-shorter d₃)
-  kind-shorter (iterative_do_by d₁ d₂ d₃ d₄) =
-      omega (
-        arith,
-        expression-shorter d₁,
-        expression-shorter d₂,
-        expression-shorter d₃,
-        statements-shorter
-            d₄,
-      )
+  kind-shorter (do_loop d₁ d₂) = omega (arith, head-shorter d₁, statements-shorter d₂)
   kind-shorter (do_case d₁ d₂) = omega (arith, expression-shorter d₁, statements-shorter d₂)
 
   statements-shorter : {s r : List Symbol} {t : StatementTrees}

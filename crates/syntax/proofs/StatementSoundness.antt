@@ -1,5 +1,5 @@
 -- What is read of statements and declarations is derived from the symbols.
-use Rattle.syntax.proofs.Prelude.{◌≡◌, ℕ, zero, suc, Bool, true, false, List, [], ◌∷◌, drop, length, Option, Some, None, Err, if◌then◌else◌, refl, sym, ◌∙◌, ap, subst, AllByRecursion, Mark, ReservedWord, Identifier, Place, DerivesExpression, DerivesArguments, DerivesTargets, DerivesStatement, labelled, unlabelled, DerivesKind, null, assignment_line, call_line, return, return_value_line, halt_line, goto_line, if_then, if_then_else, simple_do_line, do_while, iterative_do_line, iterative_do_by, do_case, DerivesStatements, no_statement, next_statement, DerivesDeclaration, declare_line, procedure_line, DerivesDeclarations, no_declaration, next_declaration, expression_level, IsNotEmpty, ends_in_open_if, is_open_if, IsReference, reference_symbols, between_commas, optional, name_symbols, element_symbols, heading_symbols, ending_symbols, Symbol, NameSymbol, NumberSymbol, StringSymbol, ReservedSymbol, PlacedSymbol, MarkSymbol, SemicolonSymbol, UnknownSymbol, ExpressionTree, ArgumentTrees, ReferenceTree, IterationTree, StatementTree, LabelledStatement, StatementKindTree, IfStatement, IterateStatement, ElseTree, NoElse, ElseStatement, StatementTrees, DeclarationTree, DeclareTree, ProcedureTree, DeclarationTrees, expression-derived, arguments-derived, targets-derived, expression, reference, arguments, items, many, many_items, Parser, TooDeep, Reading, at_mark, at_word, next_name, mark, semicolon, word, name, BlockParser, at_semicolon, labels_before, after_labels, statements_of, declarations_of, ends_declarations, statements, declarations, block, end_of_do, body_of_do, end_name, ending, assignment, call, return_value, otherwise, conditional, step, iteration, simple_do, while_do, case_do, iterative_do, do_statement, goto, beginning_of, kind_by, statement_by, procedure, declare, declare_or, statement, declaration}
+use Rattle.syntax.proofs.Prelude.{◌≡◌, ℕ, zero, suc, Bool, true, false, List, [], ◌∷◌, drop, length, Option, Some, None, Err, if◌then◌else◌, refl, sym, ◌∙◌, ap, subst, AllByRecursion, Mark, ReservedWord, Identifier, Place, DerivesExpression, DerivesArguments, DerivesTargets, DerivesStatement, labelled, unlabelled, DerivesKind, null, assignment_line, call_line, return, return_value_line, halt_line, goto_line, if_then, if_then_else, simple_do_line, DerivesHead, while_head, count_head, count_by_head, do_loop, do_case, DerivesStatements, no_statement, next_statement, DerivesDeclaration, declare_line, procedure_line, DerivesDeclarations, no_declaration, next_declaration, expression_level, IsNotEmpty, ends_in_open_if, is_open_if, IsReference, reference_symbols, between_commas, optional, name_symbols, element_symbols, heading_symbols, ending_symbols, Symbol, NameSymbol, NumberSymbol, StringSymbol, ReservedSymbol, PlacedSymbol, MarkSymbol, SemicolonSymbol, UnknownSymbol, ExpressionTree, ArgumentTrees, ReferenceTree, LoopHeadTree, CountHead, StatementTree, LabelledStatement, StatementKindTree, IfStatement, ElseTree, NoElse, ElseStatement, StatementTrees, DeclarationTree, DeclareTree, ProcedureTree, DeclarationTrees, expression-derived, arguments-derived, targets-derived, expression, reference, arguments, items, many, many_items, Parser, TooDeep, Reading, at_mark, at_word, next_name, mark, semicolon, word, name, BlockParser, at_semicolon, labels_before, after_labels, statements_of, declarations_of, ends_declarations, statements, declarations, block, end_of_do, body_of_do, end_name, ending, assignment, call, return_value, otherwise, conditional, step, iteration, loop_head, simple_do, case_do, loop_do, do_statement, goto, beginning_of, kind_by, statement_by, procedure, declare, declare_or, statement, declaration}
 use Rattle.words.specs.declared.vocabulary.Mark.TheVariants as marks
 use Rattle.words.specs.declared.vocabulary.ReservedWord.TheVariants as words
 use Rattle.syntax.specs.internal.Statements.{halt}
@@ -73,6 +73,10 @@ targets-left : {s rest left : List Symbol} {t : List ReferenceTree} → rest ≡
     → DerivesTargets s t rest → DerivesTargets s t left
 targets-left {s} {rest} {left} {t} e d = subst (λ (k : List Symbol). DerivesTargets s t k) e d
 
+head-left : {s rest left : List Symbol} {t : LoopHeadTree} → rest ≡ left
+    → DerivesHead s t rest → DerivesHead s t left
+head-left {s} {rest} {left} {t} e d = subst (λ (k : List Symbol). DerivesHead s t k) e d
+
 statement-left : {s rest left : List Symbol} {t : StatementTree} → rest ≡ left
     → DerivesStatement s t rest → DerivesStatement s t left
 statement-left {s} {rest} {left} {t} e d = subst (λ (k : List Symbol). DerivesStatement s t k) e d
@@ -87,6 +91,12 @@ kind-from : {s other rest : List Symbol} {t : StatementKindTree}
     → DerivesKind other t rest
     → DerivesKind s t rest
 kind-from {s} {other} {rest} {t} e d = subst (λ (k : List Symbol). DerivesKind k t rest) (sym e) d
+
+head-from : {s other rest : List Symbol} {t : LoopHeadTree}
+    → s ≡ other
+    → DerivesHead other t rest
+    → DerivesHead s t rest
+head-from {s} {other} {rest} {t} e d = subst (λ (k : List Symbol). DerivesHead k t rest) (sym e) d
 
 -- what is read of a statement: no ELSE stands after an IF without one
 abbrev pub IsStatementRead : List Symbol → StatementTree × List Symbol → Type 0
@@ -315,28 +325,23 @@ step-gets room s =
     gets_ok (some_step (at_word-is words.By s more) h))
     (λ _. gets_ok no_step)
 
--- the head of an iterative DO: whatever statements follow, it is one with them
-abbrev IsHeadRead : List Symbol → IterationTree × List Symbol → Type 0
-IsHeadRead s found =
-    (place end : Place) (body : StatementTrees) (rest : List Symbol)
-    → DerivesStatements found.1 body (ReservedSymbol words.End ∷ SemicolonSymbol end ∷ rest)
-    → DerivesKind (PlacedSymbol words.Do place ∷ s) (IterateStatement place found.0 body) rest
+-- what is read of the head of a loop
+abbrev IsHeadRead : List Symbol → LoopHeadTree × List Symbol → Type 0
+IsHeadRead s found = DerivesHead s found.0 found.1
 
-head-read : {variable : Identifier} {first last : ExpressionTree} {s symbols to left rest : List Symbol}
-    {start : Place}
+head-read : {variable : Identifier} {first last : ExpressionTree} {s symbols to left : List Symbol}
     → (found : Option ExpressionTree × List Symbol)
     → s ≡ NameSymbol variable ∷ MarkSymbol marks.EqualSign ∷ symbols
     → DerivesExpression expression_level symbols first (ReservedSymbol words.To ∷ to)
     → DerivesExpression expression_level to last left
     → StepRead left found
-    → found.1 ≡ SemicolonSymbol start ∷ rest
-    → IsHeadRead s (record { variable = variable; first = first; last = last; step = found.0 }, rest)
-head-read found e d₁ d₂ no_step e₂ place end body rest d =
-    after-same e (iterative_do_line d₁ (expression-left e₂ d₂) d)
-head-read found e d₁ d₂ (some_step e₁ d₃) e₂ place end body rest d =
-    after-same e (iterative_do_by d₁ (expression-left e₁ d₂) (expression-left e₂ d₃) d)
+    → IsHeadRead s
+    (CountHead (record { variable = variable; first = first; last = last; step = found.0 }), found.1)
+head-read found e d₁ d₂ no_step = head-from e (count_head d₁ d₂)
+head-read found e d₁ d₂ (some_step e₁ d₃) = head-from e (count_by_head d₁ (expression-left e₁ d₂) d₃)
 
-iteration-gets : (room : ℕ) (s : List Symbol) → Gets (IsHeadRead s) (iteration (expression room) s)
+iteration-gets : (room : ℕ) (s : List Symbol)
+    → Gets (λ found. IsHeadRead s (CountHead found.0, found.1)) (iteration (expression room) s)
 unfolding iteration
 iteration-gets room s =
     gets_bind (name-gets s) λ its_variable e₁.
@@ -345,9 +350,19 @@ iteration-gets room s =
     gets_bind (word-gets words.To its_first.1) λ to e₃.
     gets_bind (expression-derives room to) λ its_last h₂.
     gets_bind (step-gets room its_last.1) λ its_step h₃.
-    gets_bind (semicolon-gets its_step.1) λ start e₄.
     gets_ok (head-read its_step (e₁ ∙ ap (λ k. NameSymbol its_variable.0 ∷ k) e₂) (expression-left e₃ h₁) h₂
-    h₃ e₄)
+    h₃)
+
+loop_head-gets : (room : ℕ) (s : List Symbol) → Gets (IsHeadRead s) (loop_head (expression room) s)
+unfolding loop_head
+loop_head-gets room s =
+    gets_if
+    (λ e.
+    gets_bind (expression-derives room (drop 1 s)) λ condition h.
+    gets_ok (head-from (at_word-is words.While s e) (while_head h)))
+    λ _.
+    gets_bind (iteration-gets room s) λ found h.
+    gets_ok h
 
 simple_do-gets : (inside : BlockParser) → GetsBlocks inside
     → (place start : Place) (s : List Symbol)
@@ -357,18 +372,6 @@ simple_do-gets inside sound place start s =
     gets_bind (sound s) λ found h.
     gets_bind (end_of_do-gets found.1) λ rest e.
     gets_ok (simple_do_line h.1 (statements-left e.1 h.2), λ open_if. absurd cc)
-
-while_do-gets : (room : ℕ) (inner : Parser StatementTree)
-    → GetsStatements inner
-    → (place : Place) (s : List Symbol)
-    → Gets (IsReadAfter words.Do place (ReservedSymbol words.While ∷ s))
-    (while_do (expression room) inner place s)
-unfolding while_do
-while_do-gets room inner sound place s =
-    gets_bind (expression-derives room s) λ condition h.
-    gets_bind (semicolon-gets condition.1) λ start e₁.
-    gets_bind (body_of_do-gets inner sound start.1) λ body hs.
-    gets_ok (do_while (expression-left e₁ h) hs.1, λ open_if. absurd cc)
 
 case_do-gets : (room : ℕ) (inner : Parser StatementTree)
     → GetsStatements inner
@@ -382,15 +385,16 @@ case_do-gets room inner sound place s =
     gets_bind (body_of_do-gets inner sound start.1) λ body hs.
     gets_ok (do_case (expression-left e₁ h) hs.1, λ open_if. absurd cc)
 
-iterative_do-gets : (room : ℕ) (inner : Parser StatementTree)
+loop_do-gets : (room : ℕ) (inner : Parser StatementTree)
     → GetsStatements inner
     → (place : Place) (s : List Symbol)
-    → Gets (IsReadAfter words.Do place s) (iterative_do (expression room) inner place s)
-unfolding iterative_do
-iterative_do-gets room inner sound place s =
-    gets_bind (iteration-gets room s) λ head h.
-    gets_bind (body_of_do-gets inner sound head.1) λ body hs.
-    gets_ok (h place hs.0 body.0 body.1 hs.1, λ open_if. absurd cc)
+    → Gets (IsReadAfter words.Do place s) (loop_do (expression room) inner place s)
+unfolding loop_do
+loop_do-gets room inner sound place s =
+    gets_bind (loop_head-gets room s) λ head h.
+    gets_bind (semicolon-gets head.1) λ start e₁.
+    gets_bind (body_of_do-gets inner sound start.1) λ body hs.
+    gets_ok (do_loop (head-left e₁ h) hs.1, λ open_if. absurd cc)
 
 -- what was read after symbols that are the same
 after_same : {w : ReservedWord} {place : Place} {r : Reading StatementKindTree} (s other : List Symbol)
@@ -409,10 +413,8 @@ do_statement-gets room inner inside sound also place s =
     (λ e. let found = at_semicolon-is s e in after_same s _ found.1
     (simple_do-gets inside also place found.0 (drop 1 s)))
     λ _. gets_if
-    (λ e. after_same s _ (at_word-is words.While s e) (while_do-gets room inner sound place (drop 1 s)))
-    λ _. gets_if
     (λ e. after_same s _ (at_word-is words.Case s e) (case_do-gets room inner sound place (drop 1 s)))
-    (λ _. iterative_do-gets room inner sound place s)
+    (λ _. loop_do-gets room inner sound place s)
 
 -- a statement without labels, by its first symbol
 kind_by-gets : (room : ℕ) (inner : Parser StatementTree) (inside : BlockParser)

@@ -1,6 +1,6 @@
 -- Statements and declarations that are derived are read again, unless depth or a name after END is in the
 -- way.
-use Rattle.syntax.proofs.Prelude.{◌≡◌, ℕ, zero, suc, max, ◌≤◌, ◌<◌, Bool, true, false, not, ◌&&◌, List, [], ◌∷◌, length, Option, Some, None, Ok, Err, if◌then◌else◌, refl, sym, ◌∙◌, ap, subst, arith, bytes_eq-Decides, AllByRecursion, bytes_eq, ReservedWord, Not, Negate, Identifier, Place, DerivesExpression, whole, with_member, DerivesArguments, no_arguments, some_arguments, DerivesTargets, last_target, next_target, DerivesStatement, labelled, unlabelled, DerivesKind, null, assignment_line, call_line, return, return_value_line, halt, goto_line, if_then, if_then_else, simple_do_line, do_while, iterative_do_line, iterative_do_by, do_case, DerivesStatements, no_statement, next_statement, DerivesDeclaration, declare_line, procedure_line, DerivesDeclarations, no_declaration, next_declaration, expression_level, IsNotEmpty, IsElement, ends_in_open_if, is_open_if, IsReference, expression_height, reference_height, arguments_height, targets_height, iteration_height, statement_height, kind_height, statements_height, declaration_height, declarations_height, IsEndName, StatementEndsMatch, KindEndsMatch, StatementsEndsMatch, DeclarationEndsMatch, DeclarationsEndsMatch, between_commas, optional, name_symbols, element_symbols, heading_symbols, ending_symbols, expression_symbols, reference_symbols, Symbol, NameSymbol, ReservedSymbol, MarkSymbol, SemicolonSymbol, NumberConstant, StringConstant, ExpressionTree, ConstantLeaf, ReferenceLeaf, LocationLeaf, ListLeaf, ParenthesizedNode, AssignmentNode, UnaryNode, BinaryNode, ReferenceTree, ReferenceTo, ArgumentTrees, ElementTree, HeadingTree, IterationTree, StatementTree, LabelledStatement, StatementKindTree, NullStatement, AssignmentStatement, CallStatement, HaltStatement, GotoStatement, IfStatement, NoElse, ElseStatement, DoStatement, WhileStatement, IterateStatement, CaseStatement, ReturnStatement, StatementTrees, NoStatements, MoreStatements, DeclarationTree, DeclareTree, ProcedureTree, DeclarationTrees, NoDeclarations, MoreDeclarations, expression-spelled, arguments-spelled, targets-spelled, expression, reference, arguments, items, many, many_items, Parser, TooDeep, OtherEndName, at_mark, at_word, BlockParser, at_semicolon, labels_before, after_labels, statements_of, beginning_of, declarations_of, ends_declarations, statements, declarations, block, body_of_do, ending, assignment, return_value, conditional, iteration, simple_do, while_do, case_do, iterative_do, do_statement, call, goto, kind_by, statement_by, procedure, declare, declare_or, statement, declaration}
+use Rattle.syntax.proofs.Prelude.{◌≡◌, ℕ, zero, suc, max, ◌≤◌, ◌<◌, Bool, true, false, not, ◌&&◌, List, [], ◌∷◌, length, Option, Some, None, Ok, Err, if◌then◌else◌, refl, sym, ◌∙◌, ap, subst, arith, bytes_eq-Decides, AllByRecursion, bytes_eq, ReservedWord, Not, Negate, Identifier, Place, DerivesExpression, whole, with_member, DerivesArguments, no_arguments, some_arguments, DerivesTargets, last_target, next_target, DerivesStatement, labelled, unlabelled, DerivesKind, null, assignment_line, call_line, return, return_value_line, halt, goto_line, if_then, if_then_else, simple_do_line, DerivesHead, while_head, count_head, count_by_head, do_loop, do_case, DerivesStatements, no_statement, next_statement, DerivesDeclaration, declare_line, procedure_line, DerivesDeclarations, no_declaration, next_declaration, expression_level, IsNotEmpty, IsElement, ends_in_open_if, is_open_if, IsReference, expression_height, reference_height, arguments_height, targets_height, iteration_height, head_height, statement_height, kind_height, statements_height, declaration_height, declarations_height, IsEndName, StatementEndsMatch, KindEndsMatch, StatementsEndsMatch, DeclarationEndsMatch, DeclarationsEndsMatch, between_commas, optional, name_symbols, element_symbols, heading_symbols, ending_symbols, expression_symbols, reference_symbols, Symbol, ReservedSymbol, MarkSymbol, SemicolonSymbol, NumberConstant, StringConstant, ExpressionTree, ConstantLeaf, ReferenceLeaf, LocationLeaf, ListLeaf, ParenthesizedNode, AssignmentNode, UnaryNode, BinaryNode, ReferenceTree, ReferenceTo, ArgumentTrees, ElementTree, HeadingTree, IterationTree, LoopHeadTree, CountHead, StatementTree, LabelledStatement, StatementKindTree, NullStatement, AssignmentStatement, CallStatement, HaltStatement, GotoStatement, IfStatement, NoElse, ElseStatement, DoStatement, LoopStatement, CaseStatement, ReturnStatement, StatementTrees, NoStatements, MoreStatements, DeclarationTree, DeclareTree, ProcedureTree, DeclarationTrees, NoDeclarations, MoreDeclarations, expression-spelled, arguments-spelled, targets-spelled, expression, reference, arguments, items, many, many_items, Parser, TooDeep, OtherEndName, at_mark, at_word, BlockParser, at_semicolon, labels_before, after_labels, statements_of, beginning_of, declarations_of, ends_declarations, statements, declarations, block, body_of_do, ending, assignment, return_value, conditional, iteration, loop_head, simple_do, case_do, loop_do, do_statement, call, goto, kind_by, statement_by, procedure, declare, declare_or, statement, declaration}
 use Rattle.words.specs.declared.vocabulary.Mark.TheVariants as marks
 use Rattle.words.specs.declared.vocabulary.ReservedWord.TheVariants as words
 use Rattle.syntax.specs.declared.statements.Beginning.TheVariants as beginnings
@@ -77,9 +77,7 @@ begins_kind goto_line = (refl, refl, refl, refl)
 begins_kind (if_then d₁ d₂) = (refl, refl, refl, refl)
 begins_kind (if_then_else d₁ d₂ e d₃) = (refl, refl, refl, refl)
 begins_kind (simple_do_line d₁ d₂) = (refl, refl, refl, refl)
-begins_kind (do_while d₁ d₂) = (refl, refl, refl, refl)
-begins_kind (iterative_do_line d₁ d₂ d₃) = (refl, refl, refl, refl)
-begins_kind (iterative_do_by d₁ d₂ d₃ d₄) = (refl, refl, refl, refl)
+begins_kind (do_loop d₁ d₂) = (refl, refl, refl, refl)
 begins_kind (do_case d₁ d₂) = (refl, refl, refl, refl)
 
 -- nor does a statement with labels
@@ -368,21 +366,6 @@ unfolding simple_do
 simple_do-verdict strict room inside sound place end declared body s middle r d₁ d₂ =
     verdict_last _ (sound s middle declared body (SemicolonSymbol end ∷ r) d₁ d₂) refl
 
-while_do-verdict : (strict : Bool) (room : ℕ) (inner : Parser StatementTree)
-    → HasStatementVerdicts strict room inner
-    → (place start end : Place) (condition : ExpressionTree) (body : StatementTrees)
-    (s middle r : List Symbol)
-    → DerivesExpression expression_level s condition (SemicolonSymbol start ∷ middle)
-    → DerivesStatements middle body (ReservedSymbol words.End ∷ SemicolonSymbol end ∷ r)
-    → Verdict (while_do (expression room) inner place s) (WhileStatement place condition body, r) strict room
-    (max (expression_height condition) (statements_height body)) (StatementsEndsMatch body)
-unfolding while_do
-while_do-verdict strict room inner sound place start end condition body s middle r d₁ d₂ =
-    verdict_as
-    (verdict_bind _ (derived_expression strict room d₁ (refl, refl, refl))
-    (verdict_last _ (body_of_do-verdict strict room inner sound body end middle r d₂) refl))
-    refl (λ both. both.1) (λ ends. (tt, ends))
-
 case_do-verdict : (strict : Bool) (room : ℕ) (inner : Parser StatementTree)
     → HasStatementVerdicts strict room inner
     → (place start end : Place) (choice : ExpressionTree) (body : StatementTrees) (s middle r : List Symbol)
@@ -397,49 +380,59 @@ case_do-verdict strict room inner sound place start end choice body s middle r d
     (verdict_last _ (body_of_do-verdict strict room inner sound body end middle r d₂) refl))
     refl (λ both. both.1) (λ ends. (tt, ends))
 
--- the head of an iterative DO without a step, and with one
-head-verdict : (strict : Bool) (room : ℕ) (variable : Identifier) (first last : ExpressionTree)
-    (start : Place) (s to r : List Symbol)
-    → DerivesExpression expression_level s first (ReservedSymbol words.To ∷ to)
-    → DerivesExpression expression_level to last (SemicolonSymbol start ∷ r)
-    → Verdict (iteration (expression room) (NameSymbol variable ∷ MarkSymbol marks.EqualSign ∷ s))
-    (record { variable = variable; first = first; last = last; step = None }, r) strict room
-    (max (expression_height first) (max (expression_height last) 0)) (Unit {0})
+-- the head of an iterative DO, and of a loop
+iteration-verdict : (strict : Bool) (room : ℕ) (counted : IterationTree) (start : Place) (s r : List Symbol)
+    → DerivesHead s (CountHead counted) (SemicolonSymbol start ∷ r)
+    → Verdict (iteration (expression room) s) (counted, SemicolonSymbol start ∷ r) strict room
+    (iteration_height counted) (Unit {0})
 unfolding iteration
-head-verdict strict room variable first last start s to r d₁ d₂ =
+iteration-verdict strict room counted start s r (count_head d₁ d₂) =
     verdict_as
     (verdict_bind _ (derived_expression strict room d₁ (refl, refl, refl))
     (verdict_bind _ (derived_expression strict room d₂ (refl, refl, refl)) verdict_ok))
     refl (λ _. tt) (λ _. (tt, (tt, tt)))
-
-head_by-verdict : (strict : Bool) (room : ℕ) (variable : Identifier) (first last step : ExpressionTree)
-    (start : Place) (s to by r : List Symbol)
-    → DerivesExpression expression_level s first (ReservedSymbol words.To ∷ to)
-    → DerivesExpression expression_level to last (ReservedSymbol words.By ∷ by)
-    → DerivesExpression expression_level by step (SemicolonSymbol start ∷ r)
-    → Verdict (iteration (expression room) (NameSymbol variable ∷ MarkSymbol marks.EqualSign ∷ s))
-    (record { variable = variable; first = first; last = last; step = Some step }, r) strict room
-    (max (expression_height first) (max (expression_height last) (expression_height step))) (Unit {0})
-unfolding iteration
-head_by-verdict strict room variable first last step start s to by r d₁ d₂ d₃ =
+iteration-verdict strict room counted start s r (count_by_head d₁ d₂ d₃) =
     verdict_as
     (verdict_bind _ (derived_expression strict room d₁ (refl, refl, refl))
     (verdict_bind _ (derived_expression strict room d₂ (refl, refl, refl))
     (verdict_last _ (verdict_last _ (derived_expression strict room d₃ (refl, refl, refl)) refl) refl)))
     refl (λ _. tt) (λ _. (tt, (tt, tt)))
 
-iterative_do-verdict : (strict : Bool) (room : ℕ) (inner : Parser StatementTree)
+head-verdict : (strict : Bool) (room : ℕ) (head : LoopHeadTree) (start : Place) (s r : List Symbol)
+    → DerivesHead s head (SemicolonSymbol start ∷ r)
+    → Verdict (loop_head (expression room) s) (head, SemicolonSymbol start ∷ r) strict room
+    (head_height head) (Unit {0})
+unfolding loop_head
+head-verdict strict room head start s r (while_head d) =
+    verdict_last _ (derived_expression strict room d (refl, refl, refl)) refl
+head-verdict strict room head start s r (count_head d₁ d₂) =
+    verdict_last _ (iteration-verdict strict room _ start _ r (count_head d₁ d₂)) refl
+head-verdict strict room head start s r (count_by_head d₁ d₂ d₃) =
+    verdict_last _ (iteration-verdict strict room _ start _ r (count_by_head d₁ d₂ d₃)) refl
+
+loop_do-verdict : (strict : Bool) (room : ℕ) (inner : Parser StatementTree)
     → HasStatementVerdicts strict room inner
-    → (place end : Place) (head : IterationTree) (body : StatementTrees) (s middle r : List Symbol)
-    → Verdict (iteration (expression room) s) (head, middle) strict room (iteration_height head) (Unit {0})
+    → (place start end : Place) (head : LoopHeadTree) (body : StatementTrees) (s middle r : List Symbol)
+    → DerivesHead s head (SemicolonSymbol start ∷ middle)
     → DerivesStatements middle body (ReservedSymbol words.End ∷ SemicolonSymbol end ∷ r)
-    → Verdict (iterative_do (expression room) inner place s) (IterateStatement place head body, r) strict room
-    (max (iteration_height head) (statements_height body)) (StatementsEndsMatch body)
-unfolding iterative_do
-iterative_do-verdict strict room inner sound place end head body s middle r h d =
+    → Verdict (loop_do (expression room) inner place s) (LoopStatement place head body, r) strict room
+    (max (head_height head) (statements_height body)) (StatementsEndsMatch body)
+unfolding loop_do
+loop_do-verdict strict room inner sound place start end head body s middle r d₁ d₂ =
     verdict_as
-    (verdict_bind _ h (verdict_last _ (body_of_do-verdict strict room inner sound body end middle r d) refl))
+    (verdict_bind _ (head-verdict strict room head start s middle d₁)
+    (verdict_last _ (body_of_do-verdict strict room inner sound body end middle r d₂) refl))
     refl (λ both. both.1) (λ ends. (tt, ends))
+
+-- the head of a loop begins neither with a semicolon nor with CASE
+does_loop : (room : ℕ) (inner : Parser StatementTree) (inside : BlockParser) (place : Place)
+    {s r : List Symbol} {head : LoopHeadTree}
+    → DerivesHead s head r
+    → do_statement (expression room) inner inside place s ≡ loop_do (expression room) inner place s
+unfolding do_statement
+does_loop room inner inside place (while_head d) = refl
+does_loop room inner inside place (count_head d₁ d₂) = refl
+does_loop room inner inside place (count_by_head d₁ d₂ d₃) = refl
 
 -- a statement without labels, by its first symbol; what it holds is one level deeper
 kind_by-verdict : (strict : Bool) (room : ℕ) (inner : Parser StatementTree) (inside : BlockParser)
@@ -475,19 +468,10 @@ kind_by-verdict strict room inner inside sound also s t r
     {body = body} d₁ d₂) none =
     verdict_inside (simple_do-verdict strict room inside also place end declared body symbols middle r d₁ d₂)
 kind_by-verdict strict room inner inside sound also s t r
-    (do_while {place} {start} {end} {symbols} {middle} {condition = condition} {body = body} d₁ d₂) none =
-    verdict_inside (while_do-verdict strict room inner sound place start end condition body symbols middle r
-    d₁ d₂)
-kind_by-verdict strict room inner inside sound also s t r
-    (iterative_do_line {place} {start} {end} {variable} {symbols} {to} {middle} {first = first} {last = last}
-    {body = body} d₁ d₂ d₃) none =
-    verdict_inside (iterative_do-verdict strict room inner sound place end _ body _ middle r
-    (head-verdict strict room variable first last start symbols to middle d₁ d₂) d₃)
-kind_by-verdict strict room inner inside sound also s t r
-    (iterative_do_by {place} {start} {end} {variable} {symbols} {to} {by} {middle} {first = first}
-    {last = last} {step = step} {body = body} d₁ d₂ d₃ d₄) none =
-    verdict_inside (iterative_do-verdict strict room inner sound place end _ body _ middle r
-    (head_by-verdict strict room variable first last step start symbols to by middle d₁ d₂ d₃) d₄)
+    (do_loop {place} {start} {end} {symbols} {middle} {head = head} {body = body} d₁ d₂) none =
+    verdict_same (does_loop room inner inside place d₁)
+    (verdict_inside (loop_do-verdict strict room inner sound place start end head body symbols middle r d₁
+    d₂))
 kind_by-verdict strict room inner inside sound also s t r
     (do_case {place} {start} {end} {symbols} {middle} {choice = choice} {body = body} d₁ d₂) none =
     verdict_inside (case_do-verdict strict room inner sound place start end choice body symbols middle r d₁
@@ -598,8 +582,7 @@ kind_height-some (HaltStatement p) = omega arith
 kind_height-some (GotoStatement p label) = omega arith
 kind_height-some (IfStatement p c body other) = omega arith
 kind_height-some (DoStatement p declared body) = omega arith
-kind_height-some (WhileStatement p c body) = omega arith
-kind_height-some (IterateStatement p i body) = omega arith
+kind_height-some (LoopStatement p head body) = omega arith
 kind_height-some (CaseStatement p c body) = omega arith
 
 mutual

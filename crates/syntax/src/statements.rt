@@ -6,13 +6,13 @@ ghost use Rattle.words.specs.Spelling.{lexeme_of};
 ghost use Rattle.grammar.specs.declared.TheConstants.{NESTING_LIMIT};
 ghost use Rattle.grammar.specs.Forms.{expression_level};
 ghost use Rattle.grammar.specs.Symbols.{symbol_of};
-ghost use Rattle.trees.specs.internal.Views.{expression_tree, reference_tree, argument_trees, statement_tree, kind_tree, else_tree, statement_trees, declaration_tree, declaration_trees, iteration_tree};
+ghost use Rattle.trees.specs.internal.Views.{expression_tree, reference_tree, argument_trees, statement_tree, kind_tree, else_tree, statement_trees, declaration_tree, declaration_trees, iteration_tree, head_tree};
 ghost use Rattle.syntax.specs.internal.Expressions.{expression, reference, arguments};
 ghost use Rattle.syntax.specs.internal.Results.{cause_of, Gives, Leaves};
 ghost use Rattle.syntax.specs.internal.Inside.{block_in, block_trees, condition, value, is_name_symbol, kind_inside, next_beginning};
 ghost use Rattle.syntax.specs.internal.Lists.{all_more_items};
 ghost use Rattle.syntax.specs.internal.Reader.{Unexpected, next_name};
-ghost use Rattle.syntax.specs.internal.Statements.{at_semicolon, beginning_at, next_label, labels_before, after_labels, begins_procedure, ends_declarations, end_of_do, end_name, ending, assignment, call, return_value, halt, goto, otherwise, conditional, step, iteration, body_of_do, do_statement, simple_do, while_do, case_do, iterative_do, statements, declarations, procedure, declare, statement, declaration};
+ghost use Rattle.syntax.specs.internal.Statements.{at_semicolon, beginning_at, next_label, labels_before, after_labels, begins_procedure, ends_declarations, end_of_do, end_name, ending, assignment, call, return_value, halt, goto, otherwise, conditional, step, iteration, loop_head, body_of_do, do_statement, simple_do, case_do, loop_do, statements, declarations, procedure, declare, statement, declaration};
 
 use crate::fault::Fault;
 use crate::measured::EXPRESSION_LEVEL;
@@ -20,8 +20,8 @@ use crate::reader::{Reader, or_memory, place_of};
 use failure::Failure;
 use std::marker::Model;
 use trees::{
-    Block, Declaration, Element, Expression, Identifier, Iteration, Name, Place, Reference,
-    Selector, Statement, StatementKind,
+    Block, Declaration, Element, Expression, Identifier, Iteration, LoopHead, Name, Place,
+    Reference, Selector, Statement, StatementKind,
 };
 use words::{Kind, Mark, ReservedWord, Word};
 
@@ -270,7 +270,22 @@ impl<'a> Reader<'a> {
         or_memory(StatementKind::goto(self.alloc, place, label))
     }
 
-    // name `=` expression TO expression [BY expression] `;`
+    // WHILE expression, or the head of an iterative DO.
+    #[tactic(auto, unfolding(crate::specs::internal::Statements::loop_head))]
+    fn take_loop_head(&mut self, room: u8) -> Result<LoopHead, Failure<Fault>>
+        requires { room ≤ NESTING_LIMIT }
+        ensures { Gives head_tree result self.new (loop_head (expression room) self.old) }
+    {
+        if self.at_word(ReservedWord::While) {
+            self.skip();
+            let condition = self.take_expression(room)?;
+            return Ok(LoopHead::While(condition));
+        }
+        let iteration = self.take_iteration(room)?;
+        Ok(LoopHead::Count(iteration))
+    }
+
+    // name `=` expression TO expression [BY expression]
     #[tactic(auto, unfolding(crate::specs::internal::Statements::iteration))]
     fn take_iteration(&mut self, room: u8) -> Result<Iteration, Failure<Fault>>
         requires { room ≤ NESTING_LIMIT }
@@ -282,7 +297,6 @@ impl<'a> Reader<'a> {
         self.take_word(ReservedWord::To)?;
         let last = self.take_expression(room)?;
         let step = self.take_step(room)?;
-        self.take_semicolon()?;
         Ok(Iteration {
             variable,
             first,
@@ -433,15 +447,11 @@ impl<'a> Reader<'a> {
             self.skip();
             return self.take_simple_do(place, room);
         }
-        if self.at_word(ReservedWord::While) {
-            self.skip();
-            return self.take_while(place, room);
-        }
         if self.at_word(ReservedWord::Case) {
             self.skip();
             return self.take_case(place, room);
         }
-        self.take_iterative_do(place, room)
+        self.take_loop(place, room)
     }
 
     // {declaration} {statement} END `;`, after DO `;`.
@@ -456,17 +466,18 @@ impl<'a> Reader<'a> {
         or_memory(StatementKind::simple_do(self.alloc, place, block))
     }
 
-    // expression `;` {statement} END `;`, after DO WHILE.
+    // The head of a loop `;` {statement} END `;`, after DO.
     #[cycle(statement)]
-    #[tactic(auto, unfolding(crate::specs::internal::Statements::while_do))]
-    fn take_while(&mut self, place: Place, room: u8) -> Result<StatementKind, Failure<Fault>>
+    #[tactic(auto, unfolding(crate::specs::internal::Statements::loop_do))]
+    fn take_loop(&mut self, place: Place, room: u8) -> Result<StatementKind, Failure<Fault>>
         requires { room ≤ NESTING_LIMIT }
         ensures { Gives kind_tree result self.new
-            (while_do (expression room) (statement true room) place self.old) }
+            (loop_do (expression room) (statement true room) place self.old) }
     {
-        let condition = self.take_condition(room)?;
+        let head = self.take_loop_head(room)?;
+        self.take_semicolon()?;
         let body = self.take_body(room)?;
-        or_memory(StatementKind::do_while(self.alloc, place, condition, body))
+        or_memory(StatementKind::do_loop(self.alloc, place, head, body))
     }
 
     // expression `;` {statement} END `;`, after DO CASE.
@@ -480,19 +491,6 @@ impl<'a> Reader<'a> {
         let choice = self.take_condition(room)?;
         let body = self.take_body(room)?;
         or_memory(StatementKind::do_case(self.alloc, place, choice, body))
-    }
-
-    // The head of an iterative DO and {statement} END `;`, after DO.
-    #[cycle(statement)]
-    #[tactic(auto, unfolding(crate::specs::internal::Statements::iterative_do))]
-    fn take_iterative_do(&mut self, place: Place, room: u8) -> Result<StatementKind, Failure<Fault>>
-        requires { room ≤ NESTING_LIMIT }
-        ensures { Gives kind_tree result self.new
-            (iterative_do (expression room) (statement true room) place self.old) }
-    {
-        let iteration = self.take_iteration(room)?;
-        let body = self.take_body(room)?;
-        or_memory(StatementKind::iterative_do(self.alloc, place, iteration, body))
     }
 
     // {statement} END `;`

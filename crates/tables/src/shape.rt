@@ -6,9 +6,9 @@
 use crate::page::Page;
 use trees::{
     Assignment, BinaryOperator, Block, Constant, Declaration, Dimension, Element, Expression,
-    Heading, Identifier, IfThen, Item, ItemType, Iteration, Linkage, Member, Module, Origin,
-    Reference, Restricted, ScalarType, Selector, Sign, Statement, StatementKind, Storage, Subject,
-    UnaryOperator, ValueList,
+    Heading, Identifier, IfThen, Item, ItemType, Iteration, Linkage, LoopHead, Member, Module,
+    Origin, Reference, Restricted, ScalarType, Selector, Sign, Statement, StatementKind, Storage,
+    Subject, UnaryOperator, ValueList,
 };
 
 /// The shape of a tree, as far as it is written.
@@ -95,12 +95,8 @@ impl Shape {
             StatementKind::Goto { label, .. } => self.name(label),
             StatementKind::If(conditional) => self.branches(conditional),
             StatementKind::Do { block, .. } => self.block(block),
-            StatementKind::While(held) => {
-                self.expression(&held.condition);
-                self.statements(&held.body);
-            }
-            StatementKind::Iterate(held) => {
-                self.iteration(&held.iteration);
+            StatementKind::Loop(held) => {
+                self.head(&held.head);
                 self.statements(&held.body);
             }
             StatementKind::Case(held) => {
@@ -136,6 +132,20 @@ impl Shape {
 }
 
 impl Shape {
+    // The head of a loop, from its own word on.
+    fn head(&mut self, head: &LoopHead) {
+        match head {
+            LoopHead::While(condition) => {
+                self.text("WHILE ");
+                self.expression(condition);
+            }
+            LoopHead::Count(iteration) => {
+                self.text("FROM ");
+                self.iteration(iteration);
+            }
+        }
+    }
+
     fn iteration(&mut self, iteration: &Iteration) {
         self.name(&iteration.variable);
         self.operand(&iteration.first);
@@ -420,8 +430,7 @@ fn opening_of_statement(kind: &StatementKind) -> &'static str {
         StatementKind::Goto { .. } => "(GOTO ",
         StatementKind::If(_) => "(IF ",
         StatementKind::Do { .. } => "(DO",
-        StatementKind::While(_) => "(WHILE ",
-        StatementKind::Iterate(_) => "(FROM ",
+        StatementKind::Loop(_) => "(",
         StatementKind::Case(_) => "(CASE ",
     }
 }

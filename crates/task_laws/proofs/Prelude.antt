@@ -8,11 +8,11 @@ pub use Rattle.mem80.specs.{Memory.{IsMemory, byte_at, word_at}, Range.{IsIn}, d
 pub use Rattle.ports.specs.{Events.{read_event, write_event}, Input.{IsScript, input_value, queue_of, reads_of}, declared.event.Event.{Event}}
 pub use Rattle.trees.proofs.Lists.{holds_for_item}
 pub use Rattle.trees.specs.{declared.declaration.ScalarType.{ScalarType, TheVariants.{Address, Byte}}, declared.expression.BinaryOperator.{BinaryOperator, TheVariants.{Divide, Greater, GreaterOrEqual, Less, LessOrEqual, Modulo, Multiply, Unequal, Xor}}, declared.expression.UnaryOperator.{UnaryOperator, TheVariants.{Negate, Not}}, declared.functions.ByteOfValue.{ByteOfValue, TheVariants.{HighByte, LowByte}}, declared.functions.UnaryFunction.{UnaryFunction}, internal.Functions.{byte_taken, for_byte}, Functions.{type_of_function}}
-pub use Rattle.typed_trees.specs.{Charge.{count_of_arguments, height_of, height_of_arguments, height_of_reference, height_of_subscript, height_of_target}, ExpressionTypes.{type_of, type_of_result, type_of_target}, Globals.{ListsGlobals}, Numbers.{NumbersFit, NumbersFitIfSome, NumbersFitIn, NumbersFitInArguments, NumbersFitInElse, NumbersFitInHead, NumbersFitInList, NumbersFitInModule, NumbersFitInProcedure, NumbersFitInReference, NumbersFitInStatements, NumbersFitInSubscript, NumbersFitInTarget, NumbersFitInTargets}, ObjectParts.{IsPartOf, IsScalar, IsScalarOf}, Sizes.{count_of, size_of_element, size_of_object, size_of_scalar}, TypedTrees.{AssignmentNode, AssignmentStatement, At, BasedOn, BinaryNode, CallNode, CallStatement, CaseStatement, ConversionNode, DoStatement, ElseStatement, Elsewhere, FunctionNode, GotoStatement, HaltStatement, Home as TypedHome, IfStatement, InConstants, InData, InFrame, InputNode, IterateStatement, LabelStatement, ListNode, ListOf, LocationNode, MoreArguments, MoreStatements, MoveStatement, NoArguments, NoElse, NoStatements, NoSubscript, Nowhere, NullStatement, NumberNode, ObjectType, PartOf, Placed, ReturnStatement, SentTo, ShiftNode, StoredIn, Subscript, TypedArguments, TypedElse, TypedExpression, TypedIteration, TypedList, TypedModule, TypedObject, TypedProcedure, TypedReference, TypedStatement, TypedStatements, TypedTarget, UnaryNode, ValueNode, WhileStatement}, WellTyped.{HasLocation, IsReturned, IsSeen, IsWellTyped, LiesFor, RefersToLocation, RefersToScalar, ShiftsIn, Takes, TypesHold, TypesHoldIn, TypesHoldInArguments, TypesHoldInElse, TypesHoldInHead, TypesHoldInList, TypesHoldInProcedure, TypesHoldInReference, TypesHoldInStatements, TypesHoldInSubscript, TypesHoldInTarget, TypesHoldInTargets, Within, WithinMain, WithinProcedure, WorksOn, types_of}, declared.parts.AtAddress.TheVariants.{AtNumber, AtObject}, declared.parts.ShiftFunction.{ShiftFunction, TheVariants.{RotateLeft, RotateRight, ShiftLeft, ShiftRight}}, declared.parts.Visibility.{Visibility}}
+pub use Rattle.typed_trees.specs.{Charge.{count_of_arguments, height_of, height_of_arguments, height_of_reference, height_of_subscript, height_of_target}, ExpressionTypes.{type_of, type_of_result, type_of_target}, Globals.{ListsGlobals}, Numbers.{NumbersFit, NumbersFitIfSome, NumbersFitIn, NumbersFitInArguments, NumbersFitInElse, NumbersFitInHead, NumbersFitInList, NumbersFitInModule, NumbersFitInProcedure, NumbersFitInReference, NumbersFitInStatements, NumbersFitInSubscript, NumbersFitInTarget, NumbersFitInTargets}, ObjectParts.{IsPartOf, IsScalar, IsScalarOf}, Sizes.{count_of, size_of_element, size_of_object, size_of_scalar}, TypedTrees.{AssignmentNode, AssignmentStatement, At, BasedOn, BinaryNode, CallNode, CallStatement, CaseStatement, ConversionNode, DoStatement, ElseStatement, Elsewhere, FunctionNode, GotoStatement, HaltStatement, Home as TypedHome, IfStatement, InConstants, InData, InFrame, InputNode, LabelStatement, ListNode, ListOf, LocationNode, LoopStatement, MoreArguments, MoreStatements, MoveStatement, NoArguments, NoElse, NoStatements, NoSubscript, Nowhere, NullStatement, NumberNode, ObjectType, PartOf, Placed, ReturnStatement, SentTo, ShiftNode, StoredIn, Subscript, TypedArguments, TypedElse, TypedExpression, TypedHead, TypedIteration, TypedList, TypedModule, TypedObject, TypedProcedure, TypedReference, TypedStatement, TypedStatements, TypedTarget, UnaryNode, ValueNode}, WellTyped.{HasLocation, IsReturned, IsSeen, IsWellTyped, LiesFor, RefersToLocation, RefersToScalar, ShiftsIn, Takes, TypesHold, TypesHoldIn, TypesHoldInArguments, TypesHoldInElse, TypesHoldInHead, TypesHoldInList, TypesHoldInProcedure, TypesHoldInReference, TypesHoldInStatements, TypesHoldInSubscript, TypesHoldInTarget, TypesHoldInTargets, Within, WithinMain, WithinProcedure, WorksOn, types_of}, declared.parts.AtAddress.TheVariants.{AtNumber, AtObject}, declared.parts.ShiftFunction.{ShiftFunction, TheVariants.{RotateLeft, RotateRight, ShiftLeft, ShiftRight}}, declared.parts.Visibility.{Visibility}}
 unfoldable pub use Rattle.typed_trees.specs.Charge.{charge_of}
 pub use Rattle.layout.specs.{Joined.{DeclaredProcedure, InProgram, IsJoined, is_public_procedure, procedure_meant}, Placement.{ModulePlacement}, Storage.{Storage}}
 pub use Rattle.meaning.proofs.Powers.{left_far_number}
-pub use Rattle.meaning.specs.{Access.{InMemory, InTheFrame, Place as SourcePlace, Surroundings, frame_bytes, home_in, home_of, is_constant, is_declared, next_place, place_in, place_of, read_byte, read_scalar, write_byte, write_scalar}, Meaning.{Displacement, IterateTurn, Later, Turn, WhileTurn, address_in_memory, address_of_list, after_turn, based_place, called, called_for, callee_in, caught_in, charged, computed, displaced, displacement, done, done_all, done_case, done_else, done_list, dropped, entered, frame_of, going_on, is_frame_of, iterated, landed, later_by, located, moved, next_turn, no_displacement, parameters_set, procedure_at, read_variable, rest_from, rest_of, returned, step_value, stepped, stored, stored_in_each, turn_of, value, value_of_flow, values, write_variable}, Outcomes.{Ended, Flow, Gave, Jumped, More, Onward, Outcome, Outside, Program, Returned, State as SourceState, Stop, Stopped, taking_one, then_do}, Values.{as_type, function_of, is_true, result_of, result_of_one, shifted, truth, turned, values_of}, declared.reason.Reason.{Reason, TheVariants.{Byte as UndeclaredByte, Constant, Stack}}}
+pub use Rattle.meaning.specs.{Access.{InMemory, InTheFrame, Place as SourcePlace, Surroundings, frame_bytes, home_in, home_of, is_constant, is_declared, next_place, place_in, place_of, read_byte, read_scalar, write_byte, write_scalar}, Meaning.{Displacement, Later, LoopTurn, Turn, address_in_memory, address_of_list, after_turn, based_place, begun as begun_loop, called, called_for, callee_in, caught_in, charged, computed, displaced, displacement, done, done_all, done_case, done_else, done_list, dropped, entered, frame_of, going_on, is_frame_of, iterated, landed, later_by, located, moved, next_turn, no_displacement, parameters_set, procedure_at, read_variable, rest_from, rest_of, returned, step_value, stepped, stored, stored_in_each, turn_of, turned as turned_loop, value, value_of_flow, values, write_variable}, Outcomes.{Ended, Flow, Gave, Jumped, More, Onward, Outcome, Outside, Program, Returned, State as SourceState, Stop, Stopped, taking_one, then_do}, Values.{as_type, function_of, is_true, result_of, result_of_one, shifted, truth, turned, values_of}, declared.reason.Reason.{Reason, TheVariants.{Byte as UndeclaredByte, Constant, Stack}}}
 pub use Rattle.isa8080.proofs.{EncodingLemmas.{word_of_bytes}, FlagBytes.{flag_byte_small}, Words.{high_of_wrapped, wrapped_once, wrapped_small}}
 pub use Rattle.isa8080.specs.{Act.{act}, Arithmetic.{add_of, decrement_of, increment_of, operate, rotate_right_of, subtract_of}, Code.{bytes_of}, Flags.{bit, flag_byte, flags_in}, State.{HoldBytes, Registers, State as Machine, State, high_byte, holds, low_byte, one_less, pushed_of, register_of, two_less, with_popped, word, wrap}, Step.{running}, declared.instr.Condition.{Condition, TheVariants.{Minus, NoCarry, NotZero, ParityEven, ParityOdd, Plus}}, declared.instr.Instr.{Instr, TheVariants.{Accumulate, AccumulateImmediate, Call, Cma, Dad, Dcr, Dcx, In, Inr, Inx, Lxi, Mov, MovToMemory, Mvi, Out, Pop, Push, Ral, Rar, Rlc, Rrc, Xchg}}, declared.instr.Operand.TheVariants.{M, Of}, declared.instr.Operation.{Operation, TheVariants.{Add, AddWithCarry, And, Compare, ExclusiveOr, Or, Subtract, SubtractWithBorrow}}, declared.instr.Pair.TheVariants.{Bc, De, Hl, Sp}, declared.instr.Register.{Register, TheVariants.{A, B, C, D, E, H, L}}, declared.instr.StackPair.{StackPair, TheVariants.{Psw, StackBc, StackDe, StackHl}}, declared.registers.Flags.{Flags}, declared.registers.Status.TheVariants.{Running}}
 unfoldable pub use Rattle.isa8080.specs.Step.{step_of}
@@ -20,7 +20,7 @@ pub use Rattle.asm8080.proofs.{Calls.{IsPushed, pushed, pushed as pushed_memory,
 pub use Rattle.asm8080.specs.{Items.{Layout, instruction_with, size_of}, Standing.{AgreesIn, InstructionStands, below, size_of_instruction}, declared.item.Item.{Item}, declared.item.Reference.TheVariants.{AtLabel}, declared.item.WordForm.{WordForm, TheVariants.{CallTo, LoadA, LoadHl, LoadPair, StoreA, StoreHl}}}
 pub use Rattle.runtime8080.proofs.{AddressBits.{by_eight, half_small, halves, none_left, quarter_high_small, quarter_low_small, quarters, turned_small}, Bits.{equal_below, none_right, shift_left, shifted_left, times, turn_left, turn_right, turned_left, turned_right}}
 pub use Rattle.treecode.proofs.KeptValues.{known_kept, node_traits}
-pub use Rattle.treecode.specs.{internal.Homes.{frame_number, home_after, home_of_object, homes_from, location_after, number_of_place, place_after}, internal.Known.{converted_address, converted_place, function_of_place, known_distance, known_number, known_subscript, known_value, place_of_part, result_of_known, result_of_place, shift_of_known}, internal.Lowered.{AreArguments, AreMore, AreMoreStatements, AreNoStatements, AreNone, AreStatements, AreTargets, IsAbsent, IsAssignment, IsBinary, IsCall, IsCallOf, IsCase, IsConstantList, IsConversion, IsDo, IsElse, IsEmbedded, IsExpression, IsForm, IsFunction, IsGoto, IsHalt, IsIf, IsIndex, IsInput, IsIterate, IsIteration, IsLabel, IsList, IsListOf, IsLocation, IsLowered, IsMove, IsNoElse, IsNoValue, IsNode, IsNull, IsNumber, IsOptional, IsPart, IsReference, IsReturn, IsSent, IsShift, IsSomeElse, IsSomeValue, IsStatement, IsStatementForm, IsStatementNode, IsStored, IsStored as IsStoredIn, IsSubscript, IsTarget, IsUnary, IsValue, IsWhile, MoreTargets, NoTargets}, internal.Nodes.{Nodes, NumbersAreWords, home_at, nodes_of}, internal.Queries.{argument, home, inside, none_kept, place_number, source}, internal.Resolved.{HaveOperands, PartHasOperands, SubscriptHasOperands}, internal.Traits.{KeepTraits, byte_after, distance_of, form_at, free_at, has_immediate, is_direct, is_free_form, is_free_of, is_free_with, is_of_low_byte, is_quiet_form, is_static_location, keeps_at, keeps_none, keeps_of, keeps_of_binary, keeps_of_byte, keeps_of_extended, keeps_of_form, keeps_of_index, keeps_of_part, keeps_of_shift, keeps_of_subscript, keeps_of_sum, known_at, known_of, memory_of_form, memory_of_inner, no_traits, number_at, place_of_reference, quiet_at, reference_is_quiet, same_low_byte, storing_nothing_at, subscript_is_quiet, traits_at}, declared.expression.Expression.{Expression}, declared.expression.ExpressionForm.{ExpressionForm}, declared.expression.ExpressionNumber.{ExpressionNumber}, declared.lists.Range.{Range}, declared.module.TreeModule.{TreeModule}, declared.place.Home.{Home}, declared.place.Location.{Location, TheVariants.{Static}}, declared.place.Place.{Place, TheVariants.{Code, Data, External, Number}}, declared.procedure.ProcedureKind.{ProcedureKind}, declared.procedure.TreeProcedure.{TreeProcedure}, declared.reference.Reference.{Reference}, declared.reference.Subscript.{Subscript as IndexNode}, declared.reference.Target.{Target, TheVariants.{Sent, Stored}}, declared.statement.Iteration.{Iteration}, declared.statement.Statement.{Statement}, declared.statement.StatementNumber.{StatementNumber}, declared.traits.Keeps.{Keeps}, declared.traits.Traits.{Traits}}
+pub use Rattle.treecode.specs.{internal.Homes.{frame_number, home_after, home_of_object, homes_from, location_after, number_of_place, place_after}, internal.Known.{converted_address, converted_place, function_of_place, known_distance, known_number, known_subscript, known_value, place_of_part, result_of_known, result_of_place, shift_of_known}, internal.Lowered.{AreArguments, AreMore, AreMoreStatements, AreNoStatements, AreNone, AreStatements, AreTargets, IsAbsent, IsAssignment, IsBinary, IsCall, IsCallOf, IsCase, IsConstantList, IsConversion, IsDo, IsElse, IsEmbedded, IsExpression, IsForm, IsFunction, IsGoto, IsHalt, IsIf, IsIndex, IsInput, IsIteration, IsLabel, IsList, IsListOf, IsLocation, IsLowered, IsMove, IsNoElse, IsNoValue, IsNode, IsNull, IsNumber, IsOptional, IsPart, IsReference, IsReturn, IsSent, IsShift, IsSomeElse, IsSomeValue, IsStatement, IsStatementForm, IsStatementNode, IsStored, IsStored as IsStoredIn, IsSubscript, IsTarget, IsUnary, IsValue, MoreTargets, NoTargets}, internal.Nodes.{Nodes, NumbersAreWords, home_at, nodes_of}, internal.Queries.{argument, home, inside, none_kept, place_number, source}, internal.Resolved.{HaveOperands, PartHasOperands, SubscriptHasOperands}, internal.Traits.{KeepTraits, byte_after, distance_of, form_at, free_at, has_immediate, is_direct, is_free_form, is_free_of, is_free_with, is_of_low_byte, is_quiet_form, is_static_location, keeps_at, keeps_none, keeps_of, keeps_of_binary, keeps_of_byte, keeps_of_extended, keeps_of_form, keeps_of_index, keeps_of_part, keeps_of_shift, keeps_of_subscript, keeps_of_sum, known_at, known_of, memory_of_form, memory_of_inner, no_traits, number_at, place_of_reference, quiet_at, reference_is_quiet, same_low_byte, storing_nothing_at, subscript_is_quiet, traits_at}, declared.expression.Expression.{Expression}, declared.expression.ExpressionForm.{ExpressionForm}, declared.expression.ExpressionNumber.{ExpressionNumber}, declared.lists.Range.{Range}, declared.module.TreeModule.{TreeModule}, declared.place.Home.{Home}, declared.place.Location.{Location, TheVariants.{Static}}, declared.place.Place.{Place, TheVariants.{Code, Data, External, Number}}, declared.procedure.ProcedureKind.{ProcedureKind}, declared.procedure.TreeProcedure.{TreeProcedure}, declared.reference.Reference.{Reference}, declared.reference.Subscript.{Subscript as IndexNode}, declared.reference.Target.{Target, TheVariants.{Sent, Stored}}, declared.statement.Iteration.{Iteration}, declared.statement.Statement.{Statement}, declared.statement.StatementNumber.{StatementNumber}, declared.traits.Keeps.{Keeps}, declared.traits.Traits.{Traits}}
 unfoldable pub use Rattle.treecode.specs.{internal.Homes.{homes_of}, internal.Traits.{traits_of}}
 pub use Rattle.treecode_laws.proofs.{Evaluating.{quiet_base, quiet_computed, quiet_gave, quiet_scalar}, Exchanging.{exchanged, in_order as evaluated_in_order, in_order}, KeptTraits.{quiet_kept}, Operands.{known_gives, operands_exchanged}, QuietTrees.{quiet_value}}
 pub use Rattle.treecode_laws.proofs.FreeNodes.{from_number, from_value}

@@ -1,5 +1,7 @@
 -- Lowering a statement adds nodes that represent it, and keeps the nodes before.
-use Rattle.treecode.proofs.Prelude.{◌≡◌, ℕ, suc, ◌+◌, ◌<◌, min, max, Bool, true, false, ◌||◌, List, [], ◌∷◌, ◌++◌, length, Option, Some, None, slice_get, unwrap_or, refl, sym, ap, ◌∙◌, subst, arith, Any, append_assoc, append-nil, height_of, height_of_else, height_of_iteration, height_of_list, height_of_optional, height_of_statement, height_of_statements, height_of_targets, IsAmongLabels, JumpsStay, JumpsStayInElse, JumpsStayInList, JumpsStayInStatements, LabelsOf, ListStands, ListsStand, ListsStandInElse, labels_of_list, TypedExpression, TypedTarget, TypedArguments, TypedIteration, TypedStatement, LabelStatement, NullStatement, AssignmentStatement, CallStatement, MoveStatement, ReturnStatement, HaltStatement, GotoStatement, IfStatement, DoStatement, WhileStatement, IterateStatement, CaseStatement, TypedElse, NoElse, ElseStatement, TypedStatements, NoStatements, MoreStatements, TypedList, ListOf, Storage, ExpressionNumber, Home, Place, Iteration, Statement, StatementNumber, AddedList, AddedStatement, known_number, known_value, IsStatement, IsStatementNode, IsStatementForm, IsLabel, IsNull, IsAssignment, IsCall, IsMove, IsReturn, IsHalt, IsGoto, IsIf, IsDo, IsWhile, IsIterate, IsCase, IsElse, IsNoElse, IsSomeElse, AreStatements, AreNoStatements, AreMoreStatements, IsList, IsListOf, ends_by, labels_numbered, labels_numbered_in_else, labels_numbered_in_list, labels_numbered_in_statements, numbers_from, reaches_end, reaches_end_of_else, reaches_end_of_list, reaches_end_of_statements, Nodes, KeepTraits, height_at, known_at, number_at, Holds, Items, Walk, assigned_in, call_in, either_ends, else_in, height_of_move, items_after, items_in, iteration_in, label_in, list_in, moved_in, noted, number_of_added, numbered, optional_in, put_case, put_do, put_if, put_iterate, put_list, put_statement, put_while, returned_in, statement_in, targets_in, value_in, got_first}
+use Rattle.treecode.proofs.Prelude.{◌≡◌, ℕ, suc, ◌+◌, ◌<◌, min, max, Bool, true, false, ◌||◌, List, [], ◌∷◌, ◌++◌, length, Option, Some, None, slice_get, unwrap_or, refl, sym, ap, ◌∙◌, subst, arith, Any, append_assoc, append-nil, height_of, height_of_else, height_of_iteration, height_of_list, height_of_optional, height_of_statement, height_of_statements, height_of_targets, IsAmongLabels, JumpsStay, JumpsStayInElse, JumpsStayInList, JumpsStayInStatements, LabelsOf, ListStands, ListsStand, ListsStandInElse, labels_of_list, TypedExpression, TypedTarget, TypedArguments, TypedIteration, TypedStatement, LabelStatement, NullStatement, AssignmentStatement, CallStatement, MoveStatement, ReturnStatement, HaltStatement, GotoStatement, IfStatement, DoStatement, LoopStatement, CaseStatement, TypedElse, NoElse, ElseStatement, TypedStatements, NoStatements, MoreStatements, TypedList, ListOf, Storage, ExpressionNumber, Home, Place, Iteration, Statement, StatementNumber, AddedList, AddedStatement, known_number, known_value, IsStatement, IsStatementNode, IsStatementForm, IsLabel, IsNull, IsAssignment, IsCall, IsMove, IsReturn, IsHalt, IsGoto, IsIf, IsDo, IsCase, IsElse, IsNoElse, IsSomeElse, AreStatements, AreNoStatements, AreMoreStatements, IsList, IsListOf, ends_by, labels_numbered, labels_numbered_in_else, labels_numbered_in_list, labels_numbered_in_statements, numbers_from, reaches_end, reaches_end_of_else, reaches_end_of_list, reaches_end_of_statements, Nodes, KeepTraits, height_at, known_at, number_at, Holds, Items, Walk, assigned_in, call_in, either_ends, else_in, height_of_move, items_after, items_in, iteration_in, label_in, list_in, moved_in, noted, number_of_added, numbered, optional_in, put_case, put_do, put_if, put_iterate, put_list, put_statement, put_while, returned_in, statement_in, targets_in, value_in, got_first}
+use Rattle.typed_trees.specs.TypedTrees.{WhileHead, CountHead}
+use Rattle.treecode.specs.internal.Lowered.{IsIterate, IsWhile}
 use Rattle.treecode.specs.declared.statement.Statement.TheVariants as statements
 use Rattle.treecode.proofs.AddedExpressions.{AreSound, AsExpression, Leads, found_after, leads_nowhere, leads_on, one_more, sound_after}
 use Rattle.treecode.proofs.AddedValues.{AsIteration, AsOptional, AsTargets, Noted, Steps, call_added, iteration_added, optional_added, same_steps, steps_nowhere, steps_on, targets_added, value_added}
@@ -373,12 +375,13 @@ module _ (storage : Storage) where
       (condition : Walk × ExpressionNumber) (made : Walk × AddedList)
       → Noted (AsExpression storage test) walk condition (height_of test)
       → ListIs storage condition.0 known around made list
-      → StatementIs storage walk known around (put_while condition.1 made) (WhileStatement test list)
+      → StatementIs storage walk known around (put_while condition.1 made)
+      (LoopStatement (WhileHead test) list)
   repeated walk known around test list condition made value is =
       let here : AsExpression storage test (made.0).nodes condition.1
       = expression_in_stays (condition.0).nodes (made.0).nodes storage is.leads.grows value.is in
       put_is walk made.0 known around (statements.While condition.1 (made.1).range)
-      (ends_by (number_at (made.0).nodes condition.1)) (WhileStatement test list)
+      (ends_by (number_at (made.0).nodes condition.1)) (LoopStatement (WhileHead test) list)
       (leads_on value.steps.leads is.leads) is.knows
       (two_heights walk.height (height_of test) (height_of_list list) (condition.0).height (made.0).height
       value.steps.height is.height)
@@ -391,10 +394,11 @@ module _ (storage : Storage) where
       (head : Walk × Iteration) (made : Walk × AddedList)
       → Noted (AsIteration storage tree) walk head (height_of_iteration tree)
       → ListIs storage head.0 known around made list
-      → StatementIs storage walk known around (put_iterate head.1 made) (IterateStatement tree list)
+      → StatementIs storage walk known around (put_iterate head.1 made)
+      (LoopStatement (CountHead tree) list)
   iterated walk known around tree list head made value is =
       put_is walk made.0 known around (statements.Iterate head.1 (made.1).range) true
-      (IterateStatement tree list)
+      (LoopStatement (CountHead tree) list)
       (leads_on value.steps.leads is.leads) is.knows
       (two_heights walk.height (height_of_iteration tree) (height_of_list list)
       (head.0).height (made.0).height
@@ -595,12 +599,14 @@ module _ (storage : Storage) where
     statement_added walk known around (DoStatement list) sound knows jumps is_around stand =
         done walk known around (list_in storage walk list) list
         (list_added walk known around list sound knows jumps stand)
-    statement_added walk known around (WhileStatement test list) sound knows jumps is_around stand =
+    statement_added walk known around (LoopStatement (WhileHead test) list) sound knows
+        jumps is_around stand =
         let value : _ = value_added storage walk test sound in
         let given : Walk = (value_in storage walk test).0 in
         repeated walk known around test list (value_in storage walk test) (list_in storage given list) value
         (list_added given known around list value.steps.leads.sound knows jumps stand)
-    statement_added walk known around (IterateStatement tree list) sound knows jumps is_around stand =
+    statement_added walk known around (LoopStatement (CountHead tree) list) sound knows
+        jumps is_around stand =
         let value : _ = iteration_added storage walk tree sound in
         let given : Walk = (iteration_in storage walk tree).0 in
         iterated walk known around tree list (iteration_in storage walk tree)

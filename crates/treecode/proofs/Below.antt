@@ -1,8 +1,7 @@
 -- Each part of an expression or a statement has a lower number than the whole, and the items of a list are in
 -- the table. The walk over a body tests this at each step.
-use Rattle.treecode.proofs.Prelude.{◌≡◌, ℕ, zero, suc, ◌+◌, ◌<◌, ◌≤◌, Bool, List, length, Option, Some, None, slice_get, cond, sym, ap, ◌∙◌, subst, arith, option_and_then, lt-ltb, same_Some, TypedExpression, TypedElse, TypedList, TypedProcedure, TypedStatement, TypedStatements, Storage, Expression, ExpressionNumber, Range, TreeProcedure, Reference, Target, Statement, StatementNumber, HasBody, IsExpression, IsNode, IsStatement, IsStatementNode, IsStatementForm, IsLabel, IsNull, IsAssignment, IsCall, IsMove, IsReturn, IsHalt, IsGoto, IsIf, IsDo, IsWhile, IsIterate, IsCase, IsElse, IsNoElse, IsSomeElse, AreStatements, AreNoStatements, AreMoreStatements, IsList, IsListOf, Nodes, item_of}
-use Rattle.treecode.specs.declared.reference.Subscript.{Subscript}
-use Rattle.treecode.specs.declared.reference.Target.TheVariants as targets
+use Rattle.treecode.proofs.Prelude.{◌≡◌, ℕ, zero, suc, ◌+◌, ◌<◌, Bool, List, length, Option, Some, None, slice_get, cond, sym, ap, ◌∙◌, subst, arith, option_and_then, lt-ltb, same_Some, TypedExpression, TypedElse, TypedList, TypedProcedure, TypedStatement, TypedStatements, Storage, Expression, Range, TreeProcedure, Statement, StatementNumber, HasBody, IsExpression, IsNode, IsStatement, IsStatementNode, IsStatementForm, IsIf, IsDo, IsCase, IsElse, IsNoElse, IsSomeElse, AreStatements, AreNoStatements, AreMoreStatements, IsList, IsListOf, Nodes, item_of}
+use Rattle.treecode.specs.internal.Lowered.{IsIterate, IsWhile}
 use Rattle.treecode.specs.declared.statement.Statement.TheVariants as statements
 pub use Rattle.treecode.specs.internal.Rising.{PartsAreBelow, ReferenceIsBelow, SubscriptIsBelow, TargetIsBelow}
 use Rattle.treecode.proofs.AddedExpressions.{parts_below}
@@ -19,20 +18,13 @@ ElseIsBelow bound (Some number) = number.index < bound
 
 -- the statements in a statement have numbers below a bound
 abbrev pub StatementsAreBelow : Nodes → (bound : ℕ) → Statement → Type 0
-StatementsAreBelow nodes bound (statements.Label number) = Unit {0}
-StatementsAreBelow nodes bound statements.Null = Unit {0}
-StatementsAreBelow nodes bound (statements.Assignment range value) = Unit {0}
-StatementsAreBelow nodes bound (statements.Call procedure range) = Unit {0}
-StatementsAreBelow nodes bound (statements.Move count source destination) = Unit {0}
-StatementsAreBelow nodes bound (statements.Return value) = Unit {0}
-StatementsAreBelow nodes bound statements.Halt = Unit {0}
-StatementsAreBelow nodes bound (statements.Goto number) = Unit {0}
 StatementsAreBelow nodes bound (statements.If condition body otherwise) =
     (body.index < bound) × ElseIsBelow bound otherwise
 StatementsAreBelow nodes bound (statements.Do range) = ItemsAreBelow nodes bound range
 StatementsAreBelow nodes bound (statements.While condition range) = ItemsAreBelow nodes bound range
 StatementsAreBelow nodes bound (statements.Iterate head range) = ItemsAreBelow nodes bound range
 StatementsAreBelow nodes bound (statements.Case choice range) = ItemsAreBelow nodes bound range
+StatementsAreBelow nodes bound statement = Unit {0}
 
 module _ {nodes : Nodes} {storage : Storage} {labels : List ℕ} where
   statement_below : {bound number : ℕ} {tree : TypedStatement}
@@ -83,19 +75,12 @@ module _ {nodes : Nodes} {storage : Storage} {labels : List ℕ} where
   -- the statements in a statement that is in tree code
   form_below : {bound : ℕ} {statement : Statement} {tree : TypedStatement}
       → IsStatementForm nodes storage labels bound statement tree → StatementsAreBelow nodes bound statement
-  form_below (IsLabel at) = tt
-  form_below IsNull = tt
-  form_below (IsAssignment to value) = tt
-  form_below (IsCall given) = tt
-  form_below (IsMove count source destination) = tt
-  form_below (IsReturn value) = tt
-  form_below IsHalt = tt
-  form_below (IsGoto at) = tt
   form_below (IsIf condition body otherwise) = (statement_below body, else_below otherwise)
   form_below (IsDo list) = list_below list
   form_below (IsWhile condition list) = list_below list
   form_below (IsIterate head list) = list_below list
   form_below (IsCase choice are) = items_below are
+  form_below form = tt
 
   -- the statement with this number in tree code contains only statements with lower numbers
   pub statements_below : {bound number : ℕ} {tree : TypedStatement} (statement : Statement)

@@ -1,5 +1,6 @@
 -- Nodes are kept when others are added after them.
-use Rattle.treecode.proofs.Prelude.{◌≡◌, ℕ, zero, suc, ◌≤◌, List, [], ◌∷◌, ◌++◌, length, Option, Some, None, subst, arith, TypedExpression, TypedReference, Subscript, TypedTarget, TypedArguments, TypedStatement, TypedElse, TypedStatements, TypedList, TypedIteration, Storage, ExpressionForm, ExpressionNumber, Range, Reference, IndexNode, Target, Iteration, Statement, StatementNumber, IsExpression, IsNode, IsForm, IsNumber, IsValue, IsLocation, IsConstantList, IsConversion, IsEmbedded, IsUnary, IsBinary, IsCallOf, IsFunction, IsShift, IsInput, IsReference, IsPart, IsSubscript, IsAbsent, IsIndex, IsTarget, IsStored, IsSent, AreArguments, AreNone, AreMore, IsExpressionIn, IsOptional, IsNoValue, IsSomeValue, AreTargets, NoTargets, MoreTargets, IsIteration, IsStatement, IsStatementNode, IsStatementForm, IsLabel, IsNull, IsAssignment, IsCall, IsMove, IsReturn, IsHalt, IsGoto, IsIf, IsDo, IsWhile, IsIterate, IsCase, IsElse, IsNoElse, IsSomeElse, AreStatements, AreNoStatements, AreMoreStatements, IsList, IsListOf, Nodes, Grows, Holds}
+use Rattle.treecode.proofs.Prelude.{◌≡◌, ℕ, zero, suc, ◌≤◌, List, [], ◌∷◌, ◌++◌, length, Option, Some, None, subst, arith, TypedExpression, TypedReference, Subscript, TypedTarget, TypedArguments, TypedStatement, TypedElse, TypedStatements, TypedList, TypedIteration, Storage, ExpressionForm, ExpressionNumber, Range, Reference, IndexNode, Target, Iteration, Statement, StatementNumber, IsExpression, IsNode, IsForm, IsNumber, IsValue, IsLocation, IsConstantList, IsConversion, IsEmbedded, IsUnary, IsBinary, IsCallOf, IsFunction, IsShift, IsInput, IsReference, IsPart, IsSubscript, IsAbsent, IsIndex, IsTarget, IsStored, IsSent, AreArguments, AreNone, AreMore, IsExpressionIn, IsOptional, IsNoValue, IsSomeValue, AreTargets, NoTargets, MoreTargets, IsIteration, IsStatement, IsStatementNode, IsStatementForm, IsLabel, IsNull, IsAssignment, IsCall, IsMove, IsReturn, IsHalt, IsGoto, IsIf, IsDo, IsCase, IsElse, IsNoElse, IsSomeElse, AreStatements, AreNoStatements, AreMoreStatements, IsList, IsListOf, Nodes, Grows, Holds}
+use Rattle.treecode.specs.internal.Lowered.{IsIterate, IsWhile}
 
 abbrev IsNothing : {A : Type 0} → Option A → Type 0
 IsNothing None = Unit {0}

@@ -1,5 +1,5 @@
 -- The numbers of homes have 16 bits: of none, and after one more.
-use Rattle.treecode.proofs.Prelude.{◌≡◌, ℕ, zero, suc, List, [], ◌∷◌, ◌++◌, sym, subst, arith, Home, HomeIsWord, HomesAreWords}
+use Rattle.treecode.proofs.Prelude.{◌≡◌, zero, suc, List, [], ◌∷◌, ◌++◌, sym, subst, arith, Home, HomeIsWord, HomesAreWords}
 
 pub no_homes : (homes : List Home) → homes ≡ [] → HomesAreWords homes
 no_homes homes empty = subst HomesAreWords (sym empty) (λ object number is. subst HomeIsWord is (omega arith))

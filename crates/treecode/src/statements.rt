@@ -1,8 +1,8 @@
 //! Lowering of typed statements to tree code.
 
 ghost use Rattle.std.specs.Prelude.{◌≡◌, map, option_map, IfOk, OnOk};
-ghost use Rattle.typed_trees.specs.TypedTrees.{CaseStatement, IfStatement, IterateStatement, MoveStatement, WhileStatement};
-ghost use Rattle.typed_trees.specs.Views.{arguments_view, else_view, expression_view, iteration_view, list_view, statement_view, statements_view, target_view};
+ghost use Rattle.typed_trees.specs.TypedTrees.{CaseStatement, IfStatement, LoopStatement, MoveStatement};
+ghost use Rattle.typed_trees.specs.Views.{arguments_view, else_view, expression_view, head_view, iteration_view, list_view, statement_view, statements_view, target_view};
 ghost use Rattle.layout.specs.Views.{layout_view};
 ghost use Rattle.treecode.specs.internal.Lowered.{ends_by};
 ghost use Rattle.treecode.specs.internal.Nodes.{nodes_of};
@@ -21,8 +21,8 @@ use layout::Layout;
 use meaning::holds;
 use std::alloc::AllocError;
 use typed_trees::{
-    TypedAssignment, TypedCase, TypedExpression, TypedIf, TypedIterate, TypedIteration, TypedList,
-    TypedMove, TypedStatement, TypedTarget, TypedWhile,
+    TypedAssignment, TypedCase, TypedExpression, TypedHead, TypedIf, TypedIteration, TypedList,
+    TypedLoop, TypedMove, TypedStatement, TypedTarget,
 };
 
 /// A statement that was added, and whether its end can be reached.
@@ -281,8 +281,7 @@ impl Lowering {
                 let list = self.list(storage, body)?;
                 self.add(Statement::Do(list.range), list.reaches_its_end)
             }
-            TypedStatement::While(turns) => self.repeat(storage, turns),
-            TypedStatement::Iterate(turns) => self.iterate(storage, turns),
+            TypedStatement::Loop(turns) => self.repeat(storage, turns),
             TypedStatement::Case(choice) => self.choose_case(storage, choice),
         }
     }
@@ -342,43 +341,35 @@ impl Lowering {
         }
     }
 
-    // Adds DO WHILE. Its end can be reached unless the condition is known to be true.
+    // Adds a loop. Its end can be reached unless its head is a condition that is known to be true.
     #[cycle(statement)]
-    fn repeat(&mut self, storage: &Layout, turns: &TypedWhile) -> Result<AddedStatement, AllocError>
+    fn repeat(&mut self, storage: &Layout, turns: &TypedLoop) -> Result<AddedStatement, AllocError>
         ensures kept { OnOk result (outside self.new ≡ outside self.old) }
         ensures ok { IfOk result (λ added. statement_in (layout_view storage.now) (walk_of self.old)
-            (WhileStatement (expression_view turns.now.condition) (list_view turns.now.body))
+            (LoopStatement (head_view turns.now.head) (list_view turns.now.body))
             ≡ (walk_of self.new, added)) }
     {
-        let condition = self.value(storage, &turns.condition)?;
-        let body = self.list(storage, &turns.body)?;
-        let reaches_its_end = self.ends(condition);
-        let statement = Statement::While {
-            condition,
-            body: body.range,
-        };
-        self.add(statement, reaches_its_end)
-    }
-
-    // Adds an iterative DO.
-    #[cycle(statement)]
-    fn iterate(
-        &mut self,
-        storage: &Layout,
-        turns: &TypedIterate,
-    ) -> Result<AddedStatement, AllocError>
-        ensures kept { OnOk result (outside self.new ≡ outside self.old) }
-        ensures ok { IfOk result (λ added. statement_in (layout_view storage.now) (walk_of self.old)
-            (IterateStatement (iteration_view turns.now.head) (list_view turns.now.body))
-            ≡ (walk_of self.new, added)) }
-    {
-        let head = self.iteration(storage, &turns.head)?;
-        let body = self.list(storage, &turns.body)?;
-        let statement = Statement::Iterate {
-            head,
-            body: body.range,
-        };
-        self.add(statement, true)
+        match &turns.head {
+            TypedHead::While(condition) => {
+                let condition = self.value(storage, condition)?;
+                let body = self.list(storage, &turns.body)?;
+                let reaches_its_end = self.ends(condition);
+                let statement = Statement::While {
+                    condition,
+                    body: body.range,
+                };
+                self.add(statement, reaches_its_end)
+            }
+            TypedHead::Count(head) => {
+                let head = self.iteration(storage, head)?;
+                let body = self.list(storage, &turns.body)?;
+                let statement = Statement::Iterate {
+                    head,
+                    body: body.range,
+                };
+                self.add(statement, true)
+            }
+        }
     }
 
     // Adds DO CASE.

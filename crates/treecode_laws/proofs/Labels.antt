@@ -2,7 +2,7 @@
 use Rattle.std.proofs.{Common.{◌≡◌, ◌≢◌, ◌⊎◌, inl, inr, ℕ, zero, suc, ◌+◌, ◌<◌, ◌≤◌, ◌==◌, Bool, true, false, List, [], ◌∷◌, ◌++◌, length, slice_get, slice_index_or, Some, arith, refl, sym, ap, subst, ◌∙◌, eq-eqb, ne_eqb}, lemmas.Bool.{cases_lt, eqb-true}, lemmas.List.Kept.{AllPairs-cons}, lemmas.Option.{same_Some}}
 use Rattle.std.specs.Prelude.{AllPairs, flat_map}
 use Rattle.typed_trees.specs.Jumps.{IsNoLabel, JumpsAreSound, LabelsStand, ListStands, ListsStand, ListsStandInCases, ListsStandInElse, ListsStandInStatements, labels_in, labels_in_else, labels_in_list, labels_in_module, labels_in_procedure, labels_in_statements}
-use Rattle.typed_trees.specs.TypedTrees.{TypedModule, TypedProcedure, TypedStatement, LabelStatement, NullStatement, AssignmentStatement, CallStatement, MoveStatement, ReturnStatement, HaltStatement, GotoStatement, IfStatement, DoStatement, WhileStatement, IterateStatement, CaseStatement, TypedElse, NoElse, ElseStatement, TypedStatements, NoStatements, MoreStatements, TypedList, ListOf}
+use Rattle.typed_trees.specs.TypedTrees.{TypedModule, TypedProcedure, TypedStatement, LabelStatement, IfStatement, DoStatement, LoopStatement, CaseStatement, TypedElse, NoElse, ElseStatement, TypedStatements, NoStatements, MoreStatements, TypedList, ListOf}
 use Rattle.treecode.specs.internal.Lowered.{labels_numbered, labels_numbered_in_else, labels_numbered_in_list, labels_numbered_in_statements, numbers_from}
 
 -- how often a number stands in a list
@@ -38,13 +38,6 @@ module _ (n : ℕ) where
     statement_same : (statement : TypedStatement) → IsNoLabel statement → ListsStand statement
         → times n (labels_in statement) ≡ times n (labels_numbered statement)
     statement_same (LabelStatement label) none stand = absurd none
-    statement_same NullStatement none stand = refl
-    statement_same (AssignmentStatement targets expression) none stand = refl
-    statement_same (CallStatement procedure given) none stand = refl
-    statement_same (MoveStatement count source destination) none stand = refl
-    statement_same (ReturnStatement expression) none stand = refl
-    statement_same HaltStatement none stand = refl
-    statement_same (GotoStatement label) none stand = refl
     statement_same (IfStatement condition body otherwise) none stand =
         let one = statement_same body stand.0 stand.1 in
         let other = else_same otherwise stand.2 in
@@ -52,9 +45,9 @@ module _ (n : ℕ) where
         let second = times_both n (labels_numbered body) (labels_numbered_in_else otherwise) in
         omega (arith, one, other, first, second)
     statement_same (DoStatement body) none stand = list_same body stand
-    statement_same (WhileStatement condition body) none stand = list_same body stand
-    statement_same (IterateStatement head body) none stand = list_same body stand
+    statement_same (LoopStatement head body) none stand = list_same body stand
     statement_same (CaseStatement choice body) none stand = cases_same body stand
+    statement_same statement none stand = refl
 
     else_same : (otherwise : TypedElse) → ListsStandInElse otherwise
         → times n (labels_in_else otherwise) ≡ times n (labels_numbered_in_else otherwise)

@@ -98,12 +98,17 @@ pub record HeadingTree : Type 0 where
   pub linkage : Option Linkage
   pub reentrant : Option Place
 
--- the head of an iterative DO, between DO and the first statement
+-- the head of an iterative DO
 pub record IterationTree : Type 0 where
   pub variable : Identifier
   pub first : ExpressionTree
   pub last : ExpressionTree
   pub step : Option ExpressionTree
+
+-- the head of a loop, between DO and the first statement: WHILE a condition, or that of an iterative DO
+pub data LoopHeadTree : Type 0 where
+  WhileHead : ExpressionTree → LoopHeadTree
+  CountHead : IterationTree → LoopHeadTree
 
 mutual
   -- a statement with the labels before it
@@ -120,8 +125,7 @@ mutual
     GotoStatement : Place → Identifier → StatementKindTree
     IfStatement : Place → ExpressionTree → StatementTree → ElseTree → StatementKindTree
     DoStatement : Place → DeclarationTrees → StatementTrees → StatementKindTree
-    WhileStatement : Place → ExpressionTree → StatementTrees → StatementKindTree
-    IterateStatement : Place → IterationTree → StatementTrees → StatementKindTree
+    LoopStatement : Place → LoopHeadTree → StatementTrees → StatementKindTree
     CaseStatement : Place → ExpressionTree → StatementTrees → StatementKindTree
 
   -- the statement after ELSE, or none

@@ -19,7 +19,7 @@ pub use identifier::{Constant, Identifier, Number, Place, StringLiteral};
 pub use module::Module;
 pub use numbers::next_number;
 pub use statement::{
-    Assignment, Block, Declaration, DoCase, DoWhile, Heading, IfThen, Iteration, IterativeDo,
-    Procedure, Statement, StatementKind,
+    Assignment, Block, Declaration, DoCase, Heading, IfThen, Iteration, Loop, LoopHead, Procedure,
+    Statement, StatementKind,
 };
 pub use symbols::Name;

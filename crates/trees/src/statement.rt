@@ -13,6 +13,14 @@ pub struct Iteration {
     pub step: Option<Expression>,
 }
 
+/// The head of a loop, between DO and the first statement.
+pub enum LoopHead {
+    /// WHILE a condition.
+    While(Expression),
+    /// That of an iterative DO.
+    Count(Iteration),
+}
+
 /// The targets of an assignment, and the value that they get.
 pub struct Assignment {
     pub target: Reference,
@@ -59,10 +67,8 @@ pub enum StatementKind {
         place: Place,
         block: Box<Block>,
     },
-    /// DO WHILE
-    While(Box<DoWhile>),
-    /// An iterative DO.
-    Iterate(Box<IterativeDo>),
+    /// DO WHILE, or an iterative DO.
+    Loop(Box<Loop>),
     /// DO CASE
     Case(Box<DoCase>),
 }
@@ -81,19 +87,11 @@ pub struct IfThen {
     pub otherwise: Option<Statement>,
 }
 
-/// DO WHILE a condition, with where the word DO stands.
+/// DO WHILE or an iterative DO, with where the word DO stands.
 #[cycle(statement)]
-pub struct DoWhile {
+pub struct Loop {
     pub place: Place,
-    pub condition: Expression,
-    pub body: Vec<Statement>,
-}
-
-/// An iterative DO, with where the word DO stands.
-#[cycle(statement)]
-pub struct IterativeDo {
-    pub place: Place,
-    pub iteration: Iteration,
+    pub head: LoopHead,
     pub body: Vec<Statement>,
 }
 
@@ -122,9 +120,9 @@ impl StatementKind {
     ghost use Rattle.std.specs.Prelude.{◌≡◌};
     ghost use Rattle.std.specs.Option.{option_map};
     ghost use Rattle.trees.specs.Trees.{NullStatement, AssignmentStatement, CallStatement, ReturnStatement};
-    ghost use Rattle.trees.specs.Trees.{HaltStatement, GotoStatement, IfStatement, DoStatement, WhileStatement};
-    ghost use Rattle.trees.specs.Trees.{IterateStatement, CaseStatement};
-    ghost use Rattle.trees.specs.internal.Views.{MakesKind, target_trees, argument_trees, expression_tree, iteration_tree};
+    ghost use Rattle.trees.specs.Trees.{HaltStatement, GotoStatement, IfStatement, DoStatement, LoopStatement};
+    ghost use Rattle.trees.specs.Trees.{CaseStatement};
+    ghost use Rattle.trees.specs.internal.Views.{MakesKind, target_trees, argument_trees, expression_tree, head_tree};
     ghost use Rattle.trees.specs.internal.Views.{else_tree, kind_tree, statement_tree, statement_trees};
     ghost use Rattle.trees.specs.internal.Views.{block_declarations, block_statements};
 
@@ -226,42 +224,18 @@ impl StatementKind {
         Ok(StatementKind::Do { place, block })
     }
 
-    /// DO WHILE a condition.
+    /// DO WHILE or an iterative DO, by its head.
     #[tactic(auto, using(crate::specs::declared::statement::StatementKind::the_lemmas, crate::proofs::Views::statement_rows_are))]
-    pub fn do_while(
+    pub fn do_loop(
         alloc: Global,
         place: Place,
-        condition: Expression,
+        head: LoopHead,
         body: Vec<Statement>,
     ) -> Result<StatementKind, AllocError>
-        ensures view { MakesKind result
-            (WhileStatement place (expression_tree condition) (statement_trees body.items)) }
+        ensures view { MakesKind result (LoopStatement place (head_tree head) (statement_trees body.items)) }
     {
-        let statement = DoWhile {
-            place,
-            condition,
-            body,
-        };
-        Ok(StatementKind::While(Box::new(alloc, statement)?))
-    }
-
-    /// An iterative DO.
-    #[tactic(auto, using(crate::specs::declared::statement::StatementKind::the_lemmas, crate::proofs::Views::statement_rows_are))]
-    pub fn iterative_do(
-        alloc: Global,
-        place: Place,
-        iteration: Iteration,
-        body: Vec<Statement>,
-    ) -> Result<StatementKind, AllocError>
-        ensures view { MakesKind result
-            (IterateStatement place (iteration_tree iteration) (statement_trees body.items)) }
-    {
-        let statement = IterativeDo {
-            place,
-            iteration,
-            body,
-        };
-        Ok(StatementKind::Iterate(Box::new(alloc, statement)?))
+        let statement = Loop { place, head, body };
+        Ok(StatementKind::Loop(Box::new(alloc, statement)?))
     }
 
     /// DO CASE a number.
@@ -360,6 +334,14 @@ impl Drop for Iteration {
     }
 }
 
+impl Drop for LoopHead {
+    fn drop(self) {
+        match self {
+            LoopHead::While(_) | LoopHead::Count(_) => {}
+        }
+    }
+}
+
 impl Drop for Assignment {
     fn drop(self) {
         let Assignment {
@@ -392,8 +374,7 @@ impl Drop for StatementKind {
             | StatementKind::Goto { place: _, label: _ }
             | StatementKind::If(_)
             | StatementKind::Do { place: _, block: _ }
-            | StatementKind::While(_)
-            | StatementKind::Iterate(_)
+            | StatementKind::Loop(_)
             | StatementKind::Case(_) => {}
         }
     }
@@ -411,23 +392,12 @@ impl Drop for IfThen {
     }
 }
 
-impl Drop for DoWhile {
+impl Drop for Loop {
     #[cycle(let_go_statement)]
     fn drop(self) {
-        let DoWhile {
+        let Loop {
             place: _,
-            condition: _,
-            body: _,
-        } = self;
-    }
-}
-
-impl Drop for IterativeDo {
-    #[cycle(let_go_statement)]
-    fn drop(self) {
-        let IterativeDo {
-            place: _,
-            iteration: _,
+            head: _,
             body: _,
         } = self;
     }

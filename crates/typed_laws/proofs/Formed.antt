@@ -1,5 +1,5 @@
 -- What words derive has the form of the grammar.
-use Rattle.typed_laws.proofs.Prelude.{◌≡◌, List, Ok, Lexeme, StatementTree, StatementKindTree, StatementTrees, DeclarationTree, DeclarationTrees, ModuleTree, Derives, DerivesModule, whole_module, DerivesDeclarations, no_declaration, next_declaration, DerivesDeclaration, declare, procedure, DerivesStatements, no_statement, next_statement, DerivesStatement, labelled, unlabelled, DerivesKind, null, assignment, call, return, return_value, halt, goto, if_then, if_then_else, simple_do, do_while, iterative_do, iterative_do_by, do_case, Symbol, TypedModule, typing_of, IsSoundlyTyped, AreFormed, IsFormed, KindIsFormed, ModuleIsFormed, StatementIsFormed, StatementsAreFormed}
+use Rattle.typed_laws.proofs.Prelude.{◌≡◌, List, Ok, Lexeme, StatementTree, StatementKindTree, StatementTrees, DeclarationTree, DeclarationTrees, ModuleTree, Derives, DerivesModule, whole_module, DerivesDeclarations, no_declaration, next_declaration, DerivesDeclaration, declare, procedure, DerivesStatements, no_statement, next_statement, DerivesStatement, labelled, unlabelled, DerivesKind, null, assignment, call, return, return_value, halt, goto, if_then, if_then_else, simple_do, do_loop, do_case, Symbol, TypedModule, typing_of, IsSoundlyTyped, AreFormed, IsFormed, KindIsFormed, ModuleIsFormed, StatementIsFormed, StatementsAreFormed}
 use Rattle.typed_laws.proofs.Facts.{is_soundly_typed}
 
 mutual
@@ -21,9 +21,7 @@ mutual
   kind_formed (if_then_else condition body closed otherwise) =
       (statement_formed body, statement_formed otherwise)
   kind_formed (simple_do declared body) = (declarations_formed declared, statements_formed body)
-  kind_formed (do_while condition body) = statements_formed body
-  kind_formed (iterative_do first last body) = statements_formed body
-  kind_formed (iterative_do_by first last step body) = statements_formed body
+  kind_formed (do_loop head body) = statements_formed body
   kind_formed (do_case choice body) = statements_formed body
 
   statements_formed : {symbols rest : List Symbol} {tree : StatementTrees}

@@ -1,7 +1,7 @@
 -- A typed expression is at most 17 times as high as the levels that it takes in the text, and so is what is
 -- highest in a statement.
-use Rattle.typed_laws.proofs.Prelude.{◌≡◌, ℕ, ◌+◌, ◌*◌, ◌≤◌, List, [], ◌∷◌, length, map, Option, None, Some, IsSomeAnd, slice_get, refl, ap, arith, IfSome, option_map, ScalarType, Identifier, arguments_height, else_height, expression_height, iteration_height, kind_height, optional_height, reference_height, statements_height, targets_height, FromDigits, FromString, FromMeasure, count_of_arguments, height_of, height_of_arguments, height_of_else, height_of_iteration, height_of_list, height_of_optional, height_of_reference, height_of_statement, height_of_statements, height_of_subscript, height_of_target, height_of_targets, type_of, IsInElement, IsPartOf, IsScalarOf, TypedExpression, NumberNode, ValueNode, LocationNode, ListNode, ConversionNode, CallNode, FunctionNode, ShiftNode, InputNode, TypedReference, PartOf, Subscript, NoSubscript, At, TypedTarget, StoredIn, SentTo, TypedArguments, TypedIteration, TypedStatement, LabelStatement, MoveStatement, TypedElse, TypedStatements, TypedList, ListOf, ObjectType, ScalarObject, StructureObject, TypedObject, TypedProcedure, TypedModule, HasLocation, IsReturned, IsSeen, RefersToLocation, RefersToScalar, Takes, TypesHold, TypesHoldIn, TypesHoldInArguments, TypesHoldInElse, TypesHoldInHead, TypesHoldInList, TypesHoldInReference, TypesHoldInStatements, TypesHoldInSubscript, TypesHoldInTarget, TypesHoldInTargets, Within, WithinProcedure, WithinMain, types_of, nameless, untyped_arguments, untyped_else, untyped_expression, untyped_iteration, untyped_kind, untyped_list, untyped_reference, untyped_statements, untyped_subscript, untyped_target, HasFewParameters, types_count}
-use Rattle.typed_trees.specs.TypedTrees.{AssignmentNode, UnaryNode, BinaryNode, NoArguments, MoreArguments, NullStatement, AssignmentStatement, CallStatement, ReturnStatement, HaltStatement, GotoStatement, IfStatement, DoStatement, WhileStatement, IterateStatement, CaseStatement, NoElse, ElseStatement, NoStatements, MoreStatements}
+use Rattle.typed_laws.proofs.Prelude.{◌≡◌, ℕ, ◌+◌, ◌*◌, ◌≤◌, List, [], ◌∷◌, length, map, Option, None, Some, IsSomeAnd, slice_get, refl, ap, arith, IfSome, option_map, ScalarType, Identifier, arguments_height, else_height, expression_height, head_height, kind_height, optional_height, reference_height, statements_height, targets_height, FromDigits, FromString, FromMeasure, count_of_arguments, height_of, height_of_arguments, height_of_else, height_of_head, height_of_list, height_of_optional, height_of_reference, height_of_statement, height_of_statements, height_of_subscript, height_of_target, height_of_targets, type_of, IsInElement, IsPartOf, IsScalarOf, TypedExpression, NumberNode, ValueNode, LocationNode, ListNode, ConversionNode, CallNode, FunctionNode, ShiftNode, InputNode, TypedReference, PartOf, Subscript, NoSubscript, At, TypedTarget, StoredIn, SentTo, TypedArguments, TypedHead, TypedStatement, LabelStatement, MoveStatement, TypedElse, TypedStatements, TypedList, ListOf, ObjectType, ScalarObject, StructureObject, TypedObject, TypedProcedure, TypedModule, HasLocation, IsReturned, IsSeen, RefersToLocation, RefersToScalar, Takes, TypesHold, TypesHoldIn, TypesHoldInArguments, TypesHoldInElse, TypesHoldInHead, TypesHoldInList, TypesHoldInReference, TypesHoldInStatements, TypesHoldInSubscript, TypesHoldInTarget, TypesHoldInTargets, Within, WithinProcedure, WithinMain, types_of, nameless, untyped_arguments, untyped_else, untyped_expression, untyped_head, untyped_kind, untyped_list, untyped_reference, untyped_statements, untyped_subscript, untyped_target, HasFewParameters, types_count}
+use Rattle.typed_trees.specs.TypedTrees.{AssignmentNode, UnaryNode, BinaryNode, NoArguments, MoreArguments, WhileHead, CountHead, NullStatement, AssignmentStatement, CallStatement, ReturnStatement, HaltStatement, GotoStatement, IfStatement, DoStatement, LoopStatement, CaseStatement, NoElse, ElseStatement, NoStatements, MoreStatements}
 
 -- where no member is named there is no subscript of one
 abbrev HasNoMore : (member : Option ℕ) → Subscript → Type 0
@@ -153,12 +153,14 @@ module _ (typed : TypedModule) (within : Within) (few : HasFewParameters typed) 
   optional_within (Some value) holds = expression_within value holds
 
   head_within :
-      (head : TypedIteration) → TypesHoldInHead typed within head
-      → height_of_iteration head ≤ 1 + 17 * iteration_height (untyped_iteration typed head)
-  head_within head holds =
-      let first = expression_within head.first holds.1 in
-      let last = expression_within head.last holds.2 in
-      let step = optional_within head.step holds.3 in
+      (head : TypedHead) → TypesHoldInHead typed within head
+      → height_of_head head ≤ 1 + 17 * head_height (untyped_head typed head)
+  head_within (WhileHead condition) holds =
+      let part = expression_within condition holds in omega (arith, part)
+  head_within (CountHead iteration) holds =
+      let first = expression_within iteration.first holds.1 in
+      let last = expression_within iteration.last holds.2 in
+      let step = optional_within iteration.step holds.3 in
       omega (arith, first, last, step)
 
   -- what a RETURN gives has types that hold
@@ -205,11 +207,7 @@ module _ (typed : TypedModule) (within : Within) (few : HasFewParameters typed) 
         let three = else_within otherwise holds.2 in
         omega (arith, one, two, three)
     statement_within (DoStatement body) holds = let part = list_within body holds in omega (arith, part)
-    statement_within (WhileStatement condition body) holds =
-        let one = expression_within condition holds.0 in
-        let other = list_within body holds.1 in
-        omega (arith, one, other)
-    statement_within (IterateStatement head body) holds =
+    statement_within (LoopStatement head body) holds =
         let one = head_within head holds.0 in
         let other = list_within body holds.1 in
         omega (arith, one, other)
@@ -232,52 +230,8 @@ module _ (typed : TypedModule) (within : Within) (few : HasFewParameters typed) 
     statements_within NoStatements labels holds = omega arith
     statements_within (MoreStatements (LabelStatement label) others) labels holds =
         let rest = statements_within others (nameless ∷ labels) holds.1 in omega (arith, rest)
-    statements_within (MoreStatements NullStatement others) labels holds =
-        let one = statement_within NullStatement holds.0 in
-        let other = statements_within others [] holds.1 in
-        omega (arith, one, other)
-    statements_within (MoreStatements (AssignmentStatement targets value) others) labels holds =
-        let one = statement_within (AssignmentStatement targets value) holds.0 in
-        let other = statements_within others [] holds.1 in
-        omega (arith, one, other)
-    statements_within (MoreStatements (CallStatement procedure values) others) labels holds =
-        let one = statement_within (CallStatement procedure values) holds.0 in
-        let other = statements_within others [] holds.1 in
-        omega (arith, one, other)
-    statements_within (MoreStatements (MoveStatement count source destination) others) labels holds =
-        let one = statement_within (MoveStatement count source destination) holds.0 in
-        let other = statements_within others [] holds.1 in
-        omega (arith, one, other)
-    statements_within (MoreStatements (ReturnStatement value) others) labels holds =
-        let one = statement_within (ReturnStatement value) holds.0 in
-        let other = statements_within others [] holds.1 in
-        omega (arith, one, other)
-    statements_within (MoreStatements HaltStatement others) labels holds =
-        let one = statement_within HaltStatement holds.0 in
-        let other = statements_within others [] holds.1 in
-        omega (arith, one, other)
-    statements_within (MoreStatements (GotoStatement label) others) labels holds =
-        let one = statement_within (GotoStatement label) holds.0 in
-        let other = statements_within others [] holds.1 in
-        omega (arith, one, other)
-    statements_within (MoreStatements (IfStatement condition body otherwise) others) labels holds =
-        let one = statement_within (IfStatement condition body otherwise) holds.0 in
-        let other = statements_within others [] holds.1 in
-        omega (arith, one, other)
-    statements_within (MoreStatements (DoStatement body) others) labels holds =
-        let one = statement_within (DoStatement body) holds.0 in
-        let other = statements_within others [] holds.1 in
-        omega (arith, one, other)
-    statements_within (MoreStatements (WhileStatement condition body) others) labels holds =
-        let one = statement_within (WhileStatement condition body) holds.0 in
-        let other = statements_within others [] holds.1 in
-        omega (arith, one, other)
-    statements_within (MoreStatements (IterateStatement head body) others) labels holds =
-        let one = statement_within (IterateStatement head body) holds.0 in
-        let other = statements_within others [] holds.1 in
-        omega (arith, one, other)
-    statements_within (MoreStatements (CaseStatement choice body) others) labels holds =
-        let one = statement_within (CaseStatement choice body) holds.0 in
+    statements_within (MoreStatements first others) labels holds =
+        let one = statement_within first holds.0 in
         let other = statements_within others [] holds.1 in
         omega (arith, one, other)
 

@@ -1,6 +1,6 @@
 -- What is inside of procedures, of simple DOs and of statements changes none of the globals of a text, nor the names of
 -- its objects and procedures so far.
-use Rattle.typed_laws.proofs.Prelude.{◌≡◌, ℕ, zero, suc, ◌+◌, Bool, true, false, List, [], ◌∷◌, ◌++◌, length, Option, Some, None, nat_le, refl, sym, ap, ◌∙◌, subst, slice_get, slice_set, is_none, not, ◌&&◌, map-append, got_first, Identifier, AssignmentStatement, CallStatement, DeclarationTree, DeclarationTrees, DeclareTree, ElementTree, ElseTree, ExpressionTree, HeadingTree, ItemElement, ItemTree, IterationTree, LiterallyElement, MoreDeclarations, NoDeclarations, ProcedureTree, ReferenceTree, ScalarType, StatementKindTree, StatementTree, StatementTrees, TypedList, TypedObject, TypedProcedure, TypedStatements, FRAME_LIMIT, OBJECT_LIMIT, Gives, gives_after, gives_fault, gives_ok, in_turn, required, then_more, Opened, opens_procedure, Keeps, keeps_append, heading_procedure, Block, OfProcedure, Owner, Progress, TheModule, is_external, TypedItem, base_of, object_named, place_of_item, size_of_item, with_typed_object, entered, inner_block, close_procedure, own_block, parameter_types, procedure_with, Known, place_of, labels_before, with_here, DeclaredTwice, ExternalContents, TooLarge, Checked, require, arguments, bound, check_linkage, declare_element, declare_elements, declare_item, declare_names, extents_of, typed_at, typed_base, typed_contents, typed_item, typed_type, with_objects, check_body, parameter_objects, declare_labels, list_of, without_label, alone, cases, declaration, declarations, else_part, kind, statements}
+use Rattle.typed_laws.proofs.Prelude.{◌≡◌, ℕ, zero, suc, ◌+◌, Bool, true, false, List, [], ◌∷◌, ◌++◌, length, Option, Some, None, nat_le, refl, sym, ap, ◌∙◌, subst, slice_get, slice_set, is_none, not, ◌&&◌, map-append, got_first, Identifier, AssignmentStatement, CallStatement, DeclarationTree, DeclarationTrees, DeclareTree, ElementTree, ElseTree, ExpressionTree, HeadingTree, ItemElement, ItemTree, LiterallyElement, LoopHeadTree, MoreDeclarations, NoDeclarations, ProcedureTree, ReferenceTree, ScalarType, StatementKindTree, StatementTree, StatementTrees, TypedList, TypedObject, TypedProcedure, TypedStatements, FRAME_LIMIT, OBJECT_LIMIT, Gives, gives_after, gives_fault, gives_ok, in_turn, required, then_more, Opened, opens_procedure, Keeps, keeps_append, heading_procedure, Block, OfProcedure, Owner, Progress, TheModule, is_external, TypedItem, base_of, object_named, place_of_item, size_of_item, with_typed_object, entered, inner_block, close_procedure, own_block, parameter_types, procedure_with, Known, place_of, labels_before, with_here, DeclaredTwice, ExternalContents, TooLarge, Checked, require, arguments, bound, check_linkage, declare_element, declare_elements, declare_item, declare_names, extents_of, typed_at, typed_base, typed_contents, typed_item, typed_type, with_objects, check_body, parameter_objects, declare_labels, list_of, without_label, alone, cases, declaration, declarations, else_part, kind, statements}
 use Rattle.std.proofs.lemmas.Bool.{and_parts}
 use Rattle.trees.specs.Trees as trees
 use Rattle.trees.specs.declared.declaration.Linkage.{Linkage}
@@ -8,6 +8,7 @@ use Rattle.trees.specs.declared.identifier.Place.{Place}
 use Rattle.typed_trees.specs.declared.limits.TheConstants.{PARAMETER_LIMIT}
 use Rattle.typed_trees.specs.declared.parts.GlobalItem.TheVariants.{GlobalObject, GlobalProcedure}
 use Rattle.names.specs.{BuiltIns.{jump_of}, Environment.{Body, Here, after_body, into_body, into_list, is_declared_again, is_label_again, out_of_body, out_of_list, with_label, with_object, with_procedure}, DeclaredNames.{labels_of}, DeclaredNames.{declared_by}}
+use Rattle.typing.proofs.Heads.{head_follows}
 use Rattle.typing.proofs.Walked.{object_names, procedure_names}
 use Rattle.typing.specs.Blocks.{declares_parameter, is_module, is_module_level, is_reentrant, with_global}
 use Rattle.typing.specs.Statements.{with_constants}
@@ -15,7 +16,7 @@ use Rattle.typing.specs.declared.fault.Cause.TheVariants.{NestedProcedure}
 use Rattle.typing.specs.internal.Expressions.{expression}
 use Rattle.typing.specs.internal.ProcedureChecks.{check_reentrant, check_visibility, declare_parameters, no_more_parameters, open_procedure}
 use Rattle.typing.specs.internal.ReferenceChecks.{Given}
-use Rattle.typing.specs.internal.StatementChecks.{assignment, call, call_bound, counter_bound, destinations, goto, goto_bound, iteration, return_from, return_with, step, value}
+use Rattle.typing.specs.internal.StatementChecks.{assignment, call, call_bound, destinations, goto, goto_bound, loop_head, return_from, return_with, value}
 use Rattle.typing.specs.internal.Typing.{labelled}
 use Rattle.std.specs.Prelude.{drop, take, ◌||◌}
 
@@ -120,18 +121,9 @@ goto_stays label progress =
     gives_after (goto_bound (place_of label) (jump_of progress.known.here label.name)) λ typed.
     gives_ok (stays_nowhere progress)
 
-step_stays : (tree : Option ExpressionTree) (progress : Progress) → StaysBy progress (step tree progress)
-step_stays None progress = gives_ok (stays_nowhere progress)
-step_stays (Some tree) progress = in_turn (value_stays tree progress) λ found stays. gives_ok stays
-
-iteration_stays : (tree : IterationTree) (progress : Progress) → StaysBy progress (iteration tree progress)
-iteration_stays tree progress =
-    gives_after (bound progress.known tree.variable) λ binding.
-    gives_after (counter_bound progress.known binding tree.variable) λ counter.
-    in_turn (value_stays tree.first progress) λ first one.
-    in_turn (value_stays tree.last first.1) λ last two.
-    in_turn (step_stays tree.step last.1) λ by three.
-    gives_ok (stays_then one (stays_then two three))
+head_stays : (head : LoopHeadTree) (progress : Progress) → StaysBy progress (loop_head head progress)
+head_stays head progress =
+    head_follows Stays stays_nowhere (λ before between after. stays_then) value_stays head progress
 
 -- PUBLIC and EXTERNAL stand at the level of the module alone
 linkage_is_none : (block : Block) (item : ItemTree) (linkage : Option Linkage)
@@ -424,16 +416,10 @@ mutual
         procedures = all.procedures;
         around = all.around;
       })
-  kind_stays block (trees.WhileStatement place condition body) progress =
-      in_turn (value_stays condition progress) λ tested one.
+  kind_stays block (trees.LoopStatement place head body) progress =
+      in_turn (head_stays head progress) λ headed one.
       in_turn
-      (list_stays body (λ label. statements block body label) tested.1
-      (λ label inside. statements_stay block body label inside)) λ done two.
-      gives_ok (stays_then one two)
-  kind_stays block (trees.IterateStatement place head body) progress =
-      in_turn (iteration_stays head progress) λ counted one.
-      in_turn
-      (list_stays body (λ label. statements block body label) counted.1
+      (list_stays body (λ label. statements block body label) headed.1
       (λ label inside. statements_stay block body label inside)) λ done two.
       gives_ok (stays_then one two)
   kind_stays block (trees.CaseStatement place choice body) progress =

@@ -1,5 +1,5 @@
 -- The objects and the procedures of a text stand, from part to part.
-use Rattle.typed_laws.proofs.Prelude.{◌≡◌, ℕ, zero, suc, ◌+◌, ◌<◌, Bool, true, List, [], ◌∷◌, ◌++◌, length, map, Some, nat_le, refl, sym, ap, ◌∙◌, subst, length-append, arith, slice_get, slice_set, is_some, not, AllByRecursion, map-append, none-some, Identifier, DeclarationTree, DeclarationTrees, DeclareTree, ElementTree, ElseTree, HeadingTree, ItemElement, ItemTree, LiterallyElement, MoreDeclarations, NoDeclarations, ProcedureTree, StatementKindTree, StatementTree, StatementTrees, IsElement, IsItem, FRAME_LIMIT, OBJECT_LIMIT, size_of_object, Home, InData, InConstants, Placed, BasedOn, Elsewhere, Nowhere, InFrame, TypedList, TypedObject, TypedProcedure, TypedStatements, AtNumber, AtObject, DeclaredTwice, ExternalContents, TooLarge, Block, OfProcedure, Owner, Progress, TheModule, is_external, Checked, require, TypedItem, declare_element, declare_elements, declare_item, declare_names, place_of_item, object_named, size_of_item, with_objects, with_typed_object, arguments, check_body, close_procedure, own_block, parameter_objects, parameter_types, procedure_with, Known, place_of, declare_labels, labels_before, list_of, with_here, without_label, alone, cases, declaration, declarations, else_part, entered, inner_block, kind, statements, Gives, gives_after, gives_ok, in_turn, then_more, Keeps, keeps_append, heading_procedure, Opened, opens_procedure, front_or_back, Same, assignment_same, call_same, goto_same, iteration_same, return_same, value_same, AreFormed, ElseIsFormed, IsFormed, KindIsFormed, StatementIsFormed, StatementsAreFormed, got_first}
+use Rattle.typed_laws.proofs.Prelude.{◌≡◌, ℕ, zero, suc, ◌+◌, ◌<◌, Bool, true, List, [], ◌∷◌, ◌++◌, length, map, Some, nat_le, refl, sym, ap, ◌∙◌, subst, length-append, arith, slice_get, slice_set, is_some, not, AllByRecursion, map-append, none-some, Identifier, DeclarationTree, DeclarationTrees, DeclareTree, ElementTree, ElseTree, HeadingTree, ItemElement, ItemTree, LiterallyElement, MoreDeclarations, NoDeclarations, ProcedureTree, StatementKindTree, StatementTree, StatementTrees, IsElement, IsItem, FRAME_LIMIT, OBJECT_LIMIT, size_of_object, Home, InData, InConstants, Placed, BasedOn, Elsewhere, Nowhere, InFrame, TypedList, TypedObject, TypedProcedure, TypedStatements, AtNumber, AtObject, DeclaredTwice, ExternalContents, TooLarge, Block, OfProcedure, Owner, Progress, TheModule, is_external, Checked, require, TypedItem, declare_element, declare_elements, declare_item, declare_names, place_of_item, object_named, size_of_item, with_objects, with_typed_object, arguments, check_body, close_procedure, own_block, parameter_objects, parameter_types, procedure_with, Known, place_of, declare_labels, labels_before, list_of, with_here, without_label, alone, cases, declaration, declarations, else_part, entered, inner_block, kind, statements, Gives, gives_after, gives_ok, in_turn, then_more, Keeps, keeps_append, heading_procedure, Opened, opens_procedure, front_or_back, Same, assignment_same, call_same, goto_same, head_same, return_same, value_same, AreFormed, ElseIsFormed, IsFormed, KindIsFormed, StatementIsFormed, StatementsAreFormed, got_first}
 use Rattle.trees.specs.Trees as trees
 use Rattle.names.specs.{Environment.{Here, is_declared_again, into_list}, DeclaredNames.{labels_of}, DeclaredNames.{declared_by}}
 use Rattle.typing.specs.internal.Typing.{labelled}
@@ -305,16 +305,10 @@ mutual
       (λ label inside s. statements_go (inner_block block) body label inside formed.1 s)) λ done two.
       let both : Goes (entered progress) done.1 = goes_then one two in
       gives_ok (record { flags = both.flags; objects = both.objects })
-  kind_goes block (trees.WhileStatement place condition body) progress formed stands =
-      in_turn (from_same stands (value_same condition progress)) λ tested one.
+  kind_goes block (trees.LoopStatement place head body) progress formed stands =
+      in_turn (from_same stands (head_same head progress)) λ headed one.
       in_turn
-      (list_goes block.owner body (λ label. statements block body label) tested.1 (stands_after stands one)
-      (λ label inside s. statements_go block body label inside formed s)) λ done two.
-      gives_ok (goes_then one two)
-  kind_goes block (trees.IterateStatement place head body) progress formed stands =
-      in_turn (from_same stands (iteration_same head progress)) λ counted one.
-      in_turn
-      (list_goes block.owner body (λ label. statements block body label) counted.1 (stands_after stands one)
+      (list_goes block.owner body (λ label. statements block body label) headed.1 (stands_after stands one)
       (λ label inside s. statements_go block body label inside formed s)) λ done two.
       gives_ok (goes_then one two)
   kind_goes block (trees.CaseStatement place choice body) progress formed stands =

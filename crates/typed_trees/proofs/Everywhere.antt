@@ -1,14 +1,14 @@
 -- If what is asked of each node by one follows from what is asked by another, the one holds everywhere if the other does.
 use Rattle.typed_trees.proofs.Prelude.{List, [], ◌∷◌, Option, Some, None}
 use Rattle.typed_trees.specs.Everywhere.{Asked, Nothing, That, alone, beside, Questions, Everywhere, EverywhereInReference, EverywhereInSubscript, EverywhereInTarget, EverywhereInArguments, EverywhereInTargets, EverywhereIfSome, EverywhereInHead, EverywhereIn, EverywhereInElse, EverywhereInStatements, EverywhereInList}
-use Rattle.typed_trees.specs.TypedTrees.{TypedExpression, NumberNode, ValueNode, LocationNode, ListNode, ConversionNode, AssignmentNode, UnaryNode, BinaryNode, CallNode, FunctionNode, ShiftNode, InputNode, TypedReference, PartOf, Subscript, NoSubscript, At, TypedTarget, StoredIn, SentTo, TypedArguments, NoArguments, MoreArguments, TypedIteration, TypedStatement, LabelStatement, NullStatement, AssignmentStatement, CallStatement, MoveStatement, ReturnStatement, HaltStatement, GotoStatement, IfStatement, DoStatement, WhileStatement, IterateStatement, CaseStatement, TypedElse, NoElse, ElseStatement, TypedStatements, NoStatements, MoreStatements, TypedList, ListOf}
+use Rattle.typed_trees.specs.TypedTrees.{TypedExpression, NumberNode, ValueNode, LocationNode, ListNode, ConversionNode, AssignmentNode, UnaryNode, BinaryNode, CallNode, FunctionNode, ShiftNode, InputNode, TypedReference, PartOf, Subscript, NoSubscript, At, TypedTarget, StoredIn, SentTo, TypedArguments, NoArguments, MoreArguments, TypedIteration, TypedHead, WhileHead, CountHead, TypedStatement, LabelStatement, NullStatement, AssignmentStatement, CallStatement, MoveStatement, ReturnStatement, HaltStatement, GotoStatement, IfStatement, DoStatement, LoopStatement, CaseStatement, TypedElse, NoElse, ElseStatement, TypedStatements, NoStatements, MoreStatements, TypedList, ListOf}
 
 -- at each node, what one asks follows from what another asks
 pub record Gives (given wanted : Questions) : Type 0 where
   pub expression : (node : TypedExpression) → alone (given.expression node) → alone (wanted.expression node)
   pub reference : (node : TypedReference) → alone (given.reference node) → alone (wanted.reference node)
   pub target : (node : TypedTarget) → alone (given.target node) → alone (wanted.target node)
-  pub head : (node : TypedIteration) → alone (given.head node) → alone (wanted.head node)
+  pub iteration : (node : TypedIteration) → alone (given.iteration node) → alone (wanted.iteration node)
   pub statement : (node : TypedStatement) → alone (given.statement node) → alone (wanted.statement node)
 
 -- a node with its parts
@@ -105,9 +105,10 @@ module _ (given wanted : Questions) (gives : Gives given wanted) where
   gives_if_some None holds = tt
   gives_if_some (Some value) holds = gives_everywhere value holds
 
-  pub gives_head : (head : TypedIteration) → EverywhereInHead given head → EverywhereInHead wanted head
-  gives_head head holds =
-      with_parts (given.head head) (wanted.head head) (gives.head head)
+  pub gives_head : (head : TypedHead) → EverywhereInHead given head → EverywhereInHead wanted head
+  gives_head (WhileHead condition) holds = gives_everywhere condition holds
+  gives_head (CountHead head) holds =
+      with_parts (given.iteration head) (wanted.iteration head) (gives.iteration head)
       (λ parts. (gives_everywhere head.first parts.0, gives_everywhere head.last parts.1, gives_if_some head.step parts.2)) holds
 
   mutual
@@ -145,14 +146,9 @@ module _ (given wanted : Questions) (gives : Gives given wanted) where
         with_parts (given.statement (DoStatement body)) (wanted.statement (DoStatement body))
         (gives.statement (DoStatement body))
         (gives_list body) holds
-    gives_statement (WhileStatement condition body) holds =
-        with_parts (given.statement (WhileStatement condition body))
-        (wanted.statement (WhileStatement condition body))
-        (gives.statement (WhileStatement condition body))
-        (λ parts. (gives_everywhere condition parts.0, gives_list body parts.1)) holds
-    gives_statement (IterateStatement head body) holds =
-        with_parts (given.statement (IterateStatement head body))
-        (wanted.statement (IterateStatement head body)) (gives.statement (IterateStatement head body))
+    gives_statement (LoopStatement head body) holds =
+        with_parts (given.statement (LoopStatement head body))
+        (wanted.statement (LoopStatement head body)) (gives.statement (LoopStatement head body))
         (λ parts. (gives_head head parts.0, gives_list body parts.1)) holds
     gives_statement (CaseStatement choice body) holds =
         with_parts (given.statement (CaseStatement choice body))

@@ -1,12 +1,13 @@
 -- The numbers in the typed trees of the code have the width of a word, since each is a `Word`.
-use Rattle.typed_trees.proofs.Prelude.{List, [], ◌∷◌, Option, Some, None, map, option_map, AllByRecursion, All-from_recursion, TypedExpression, TypedTarget, TypedStatement, Row_of-TypedExpression, end_of-TypedExpression, more_of-TypedExpression, Row_of-TypedStatement, end_of-TypedStatement, more_of-TypedStatement, expression_view, subscript_view, target_view, argument_rows, arguments_view, iteration_view, statement_view, held_else_view, statement_rows, statements_view, procedure_view, module_view, NumbersFit, NumbersFitIfSome, NumbersFitIn, NumbersFitInArguments, NumbersFitInElse, NumbersFitInHead, NumbersFitInModule, NumbersFitInProcedure, NumbersFitInStatements, NumbersFitInSubscript, NumbersFitInTarget, NumbersFitInTargets}
+use Rattle.typed_trees.proofs.Prelude.{List, [], ◌∷◌, Option, Some, None, map, option_map, AllByRecursion, All-from_recursion, TypedExpression, TypedTarget, TypedStatement, Row_of-TypedExpression, end_of-TypedExpression, more_of-TypedExpression, Row_of-TypedStatement, end_of-TypedStatement, more_of-TypedStatement, expression_view, subscript_view, target_view, argument_rows, arguments_view, head_view, statement_view, held_else_view, statement_rows, statements_view, procedure_view, module_view, NumbersFit, NumbersFitIfSome, NumbersFitIn, NumbersFitInArguments, NumbersFitInElse, NumbersFitInHead, NumbersFitInModule, NumbersFitInProcedure, NumbersFitInStatements, NumbersFitInSubscript, NumbersFitInTarget, NumbersFitInTargets}
 use Rattle.typed_trees.specs.declared.expression.TypedExpression.TheVariants as expressions
 use Rattle.typed_trees.specs.declared.expression.TypedSubscript.{TypedSubscript}
 use Rattle.typed_trees.specs.declared.expression.TypedSubscript.TheVariants as subscripts
 use Rattle.typed_trees.specs.declared.expression.TypedTarget.TheVariants as targets
 use Rattle.typed_trees.specs.declared.module.Typed.{Typed}
 use Rattle.typed_trees.specs.declared.module.TypedProcedure.{TypedProcedure}
-use Rattle.typed_trees.specs.declared.statement.TypedIteration.{TypedIteration}
+use Rattle.typed_trees.specs.declared.statement.TypedHead.{TypedHead}
+use Rattle.typed_trees.specs.declared.statement.TypedHead.TheVariants as heads
 use Rattle.typed_trees.specs.declared.statement.TypedStatement.{Held-TypedIf-otherwise, None' as NoElse', Some' as SomeElse'}
 use Rattle.typed_trees.specs.declared.statement.TypedStatement.TheVariants as statements
 
@@ -52,8 +53,9 @@ in_step : (step : Option TypedExpression) → NumbersFitIfSome (option_map expre
 in_step None = tt
 in_step (Some step) = numbers_in step
 
-in_head : (head : TypedIteration) → NumbersFitInHead (iteration_view head)
-in_head head = (numbers_in head.first, numbers_in head.last, in_step head.step)
+in_head : (head : TypedHead) → NumbersFitInHead (head_view head)
+in_head (heads.While condition) = numbers_in condition
+in_head (heads.Count head) = (numbers_in head.first, numbers_in head.last, in_step head.step)
 
 mutual
   in_statement : (statement : TypedStatement) → NumbersFitIn (statement_view statement)
@@ -71,9 +73,7 @@ mutual
   in_statement (statements.If' p condition body otherwise) =
       (numbers_in condition, in_statement body, in_else otherwise)
   in_statement (statements.Do' p first places shape rows) = in_statement_rows rows
-  in_statement (statements.While' p condition first places shape rows) =
-      (numbers_in condition, in_statement_rows rows)
-  in_statement (statements.Iterate' p head first places shape rows) = (in_head head, in_statement_rows rows)
+  in_statement (statements.Loop' p head first places shape rows) = (in_head head, in_statement_rows rows)
   in_statement (statements.Case' p choice shape rows) = (numbers_in choice, in_statement_rows rows)
 
   in_else : (otherwise : Held-TypedIf-otherwise) → NumbersFitInElse (held_else_view otherwise)

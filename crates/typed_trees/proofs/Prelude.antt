@@ -8,7 +8,7 @@ pub use Rattle.typed_trees.specs.Numbers.{NumbersFit, NumbersFitIfSome, NumbersF
 pub use Rattle.typed_trees.specs.ObjectParts.{IsInElement, IsOneOf, IsPartOf, IsScalarIn, IsScalarOf, IsSubscriptOf}
 pub use Rattle.typed_trees.specs.Sizes.{after_member, capped, count_of, has_member, member_named, size_of_element, size_of_member, size_of_object, size_of_scalar}
 pub use Rattle.typed_trees.specs.TypedTrees.{At, BasedOn, BinaryNode, CallNode, ConversionNode, Home, InData, InFrame, InputNode, ListOf, LocationNode, MoreArguments, MoreStatements, NoArguments, NoStatements, NoSubscript, NumberNode, ObjectType, PartOf, ReturnStatement, ScalarObject, ShiftNode, StructureObject, Subscript, TypedModule, TypedObject, TypedProcedure, TypedReference, ValueNode}
-pub use Rattle.typed_trees.specs.Views.{argument_rows, arguments_view, expression_view, held_else_view, iteration_view, list_view, module_view, procedure_view, statement_rows, statement_view, statements_view, subscript_view, target_view}
+pub use Rattle.typed_trees.specs.Views.{argument_rows, arguments_view, expression_view, head_view, held_else_view, list_view, module_view, procedure_view, statement_rows, statement_view, statements_view, subscript_view, target_view}
 pub use Rattle.typed_trees.specs.declared.expression.TypedExpression.{Row_of-TypedExpression, TypedExpression, end_of-TypedExpression, items-the_row-TypedExpression, more_of-TypedExpression}
 pub use Rattle.typed_trees.specs.declared.expression.TypedTarget.{TypedTarget}
 pub use Rattle.typed_trees.specs.declared.parts.TypedMember.{TypedMember}

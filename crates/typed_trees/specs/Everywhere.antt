@@ -1,7 +1,7 @@
 -- One condition at each node of typed trees: what is asked of a node beside its parts. A predicate that says something of each
 -- node and of all of its parts is an instance of `Everywhere` and `EverywhereIn`, and so has their laws.
 use Rattle.std.specs.Prelude.{List, [], ◌∷◌, Option, Some, None}
-use Rattle.typed_trees.specs.TypedTrees.{TypedExpression, NumberNode, ValueNode, LocationNode, ListNode, ConversionNode, AssignmentNode, UnaryNode, BinaryNode, CallNode, FunctionNode, ShiftNode, InputNode, TypedReference, PartOf, Subscript, NoSubscript, At, TypedTarget, StoredIn, SentTo, TypedArguments, NoArguments, MoreArguments, TypedIteration, TypedStatement, LabelStatement, NullStatement, AssignmentStatement, CallStatement, MoveStatement, ReturnStatement, HaltStatement, GotoStatement, IfStatement, DoStatement, WhileStatement, IterateStatement, CaseStatement, TypedElse, NoElse, ElseStatement, TypedStatements, NoStatements, MoreStatements, TypedList, ListOf}
+use Rattle.typed_trees.specs.TypedTrees.{TypedExpression, NumberNode, ValueNode, LocationNode, ListNode, ConversionNode, AssignmentNode, UnaryNode, BinaryNode, CallNode, FunctionNode, ShiftNode, InputNode, TypedReference, PartOf, Subscript, NoSubscript, At, TypedTarget, StoredIn, SentTo, TypedArguments, NoArguments, MoreArguments, TypedIteration, TypedHead, WhileHead, CountHead, TypedStatement, LabelStatement, NullStatement, AssignmentStatement, CallStatement, MoveStatement, ReturnStatement, HaltStatement, GotoStatement, IfStatement, DoStatement, LoopStatement, CaseStatement, TypedElse, NoElse, ElseStatement, TypedStatements, NoStatements, MoreStatements, TypedList, ListOf}
 
 -- what is asked of a node: nothing, or a condition
 pub data Asked : Type 1 where
@@ -23,7 +23,7 @@ pub record Questions : Type 1 where
   pub expression : TypedExpression → Asked
   pub reference : TypedReference → Asked
   pub target : TypedTarget → Asked
-  pub head : TypedIteration → Asked
+  pub iteration : TypedIteration → Asked
   pub statement : TypedStatement → Asked
 
 abbrev mutual
@@ -88,9 +88,11 @@ abbrev pub EverywhereIfSome : Questions → Option TypedExpression → Type 0
 EverywhereIfSome asks None = Unit {0}
 EverywhereIfSome asks (Some expression) = Everywhere asks expression
 
-abbrev pub EverywhereInHead : Questions → TypedIteration → Type 0
-EverywhereInHead asks head =
-    beside (asks.head head)
+-- in the head of a loop
+abbrev pub EverywhereInHead : Questions → TypedHead → Type 0
+EverywhereInHead asks (WhileHead condition) = Everywhere asks condition
+EverywhereInHead asks (CountHead head) =
+    beside (asks.iteration head)
     (Everywhere asks head.first × Everywhere asks head.last × EverywhereIfSome asks head.step)
 
 abbrev mutual
@@ -118,11 +120,8 @@ abbrev mutual
   EverywhereIn asks (DoStatement body) =
       beside (asks.statement (DoStatement body))
       (EverywhereInList asks body)
-  EverywhereIn asks (WhileStatement condition body) =
-      beside (asks.statement (WhileStatement condition body))
-      (Everywhere asks condition × EverywhereInList asks body)
-  EverywhereIn asks (IterateStatement head body) =
-      beside (asks.statement (IterateStatement head body))
+  EverywhereIn asks (LoopStatement head body) =
+      beside (asks.statement (LoopStatement head body))
       (EverywhereInHead asks head × EverywhereInList asks body)
   EverywhereIn asks (CaseStatement choice body) =
       beside (asks.statement (CaseStatement choice body))

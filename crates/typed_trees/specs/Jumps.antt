@@ -1,6 +1,6 @@
 -- Where the labels of lists stand, and the labels to which GOTOs go.
 use Rattle.std.specs.Prelude.{◌≡◌, ◌≢◌, ℕ, ◌+◌, ◌<◌, ◌≤◌, List, [], ◌∷◌, ◌++◌, length, flat_map, All, AllPairs, Any}
-use Rattle.typed_trees.specs.TypedTrees.{TypedStatement, LabelStatement, NullStatement, AssignmentStatement, CallStatement, MoveStatement, ReturnStatement, HaltStatement, GotoStatement, IfStatement, DoStatement, WhileStatement, IterateStatement, CaseStatement, TypedElse, NoElse, ElseStatement, TypedStatements, NoStatements, MoreStatements, TypedList, ListOf, TypedProcedure, TypedModule}
+use Rattle.typed_trees.specs.TypedTrees.{TypedStatement, LabelStatement, NullStatement, AssignmentStatement, CallStatement, MoveStatement, ReturnStatement, HaltStatement, GotoStatement, IfStatement, DoStatement, LoopStatement, CaseStatement, TypedElse, NoElse, ElseStatement, TypedStatements, NoStatements, MoreStatements, TypedList, ListOf, TypedProcedure, TypedModule}
 
 -- the labels of a list: `count` numbers from the first on
 pub record LabelsOf : Type 0 where
@@ -27,8 +27,7 @@ abbrev mutual
   JumpsStay around (IfStatement condition body otherwise) =
       JumpsStay around body × JumpsStayInElse around otherwise
   JumpsStay around (DoStatement body) = JumpsStayInList around body
-  JumpsStay around (WhileStatement condition body) = JumpsStayInList around body
-  JumpsStay around (IterateStatement head body) = JumpsStayInList around body
+  JumpsStay around (LoopStatement head body) = JumpsStayInList around body
   JumpsStay around (CaseStatement choice body) = JumpsStayInStatements around body
 
   pub JumpsStayInElse : (around : List LabelsOf) → TypedElse → Type 0
@@ -76,8 +75,7 @@ abbrev mutual
   ListsStand (IfStatement condition body otherwise) =
       IsNoLabel body × ListsStand body × ListsStandInElse otherwise
   ListsStand (DoStatement body) = ListStands body
-  ListsStand (WhileStatement condition body) = ListStands body
-  ListsStand (IterateStatement head body) = ListStands body
+  ListsStand (LoopStatement head body) = ListStands body
   ListsStand (CaseStatement choice body) = ListsStandInCases body
 
   pub ListsStandInElse : TypedElse → Type 0
@@ -116,8 +114,7 @@ abbrev mutual
   labels_in (GotoStatement label) = []
   labels_in (IfStatement condition body otherwise) = labels_in body ++ labels_in_else otherwise
   labels_in (DoStatement body) = labels_in_list body
-  labels_in (WhileStatement condition body) = labels_in_list body
-  labels_in (IterateStatement head body) = labels_in_list body
+  labels_in (LoopStatement head body) = labels_in_list body
   labels_in (CaseStatement choice body) = labels_in_statements body
 
   pub labels_in_else : TypedElse → List ℕ

@@ -1,7 +1,7 @@
 -- The values of the numbers in typed trees, as `NumberNode` has them, have the width of a word: none is above 65535.
 -- With `IsNumberOf` of the trees that are well typed, by which that of a BYTE is below 256, each is a value of its type.
 use Rattle.std.specs.Prelude.{◌<◌, List, All, Option}
-use Rattle.typed_trees.specs.TypedTrees.{TypedExpression, NumberNode, TypedReference, Subscript, TypedTarget, TypedArguments, TypedIteration, TypedStatement, TypedElse, TypedStatements, TypedList, TypedProcedure, TypedModule}
+use Rattle.typed_trees.specs.TypedTrees.{TypedExpression, NumberNode, TypedReference, Subscript, TypedTarget, TypedArguments, TypedHead, TypedStatement, TypedElse, TypedStatements, TypedList, TypedProcedure, TypedModule}
 use Rattle.typed_trees.specs.Everywhere.{Asked, Nothing, That, Questions, Everywhere, EverywhereInReference, EverywhereInSubscript, EverywhereInTarget, EverywhereInArguments, EverywhereInTargets, EverywhereIfSome, EverywhereInHead, EverywhereIn, EverywhereInElse, EverywhereInStatements, EverywhereInList}
 
 abbrev pub fits : TypedExpression → Asked
@@ -14,7 +14,7 @@ numbers = record {
   expression = fits;
   reference = λ reference. Nothing;
   target = λ target. Nothing;
-  head = λ head. Nothing;
+  iteration = λ head. Nothing;
   statement = λ statement. Nothing;
 }
 
@@ -41,7 +41,7 @@ NumbersFitInTargets = EverywhereInTargets numbers
 abbrev pub NumbersFitIfSome : Option TypedExpression → Type 0
 NumbersFitIfSome = EverywhereIfSome numbers
 
-abbrev pub NumbersFitInHead : TypedIteration → Type 0
+abbrev pub NumbersFitInHead : TypedHead → Type 0
 NumbersFitInHead = EverywhereInHead numbers
 
 -- the numbers in a statement are below 65536

@@ -75,6 +75,11 @@ pub record TypedIteration : Type 0 where
   pub last : TypedExpression
   pub step : Option TypedExpression
 
+-- the head of a loop: WHILE a condition, or that of an iterative DO
+pub data TypedHead : Type 0 where
+  WhileHead : TypedExpression → TypedHead
+  CountHead : TypedIteration → TypedHead
+
 mutual
   pub data TypedStatement : Type 0 where
     -- a label, which stands before the statement that it names
@@ -90,8 +95,7 @@ mutual
     GotoStatement : (label : ℕ) → TypedStatement
     IfStatement : TypedExpression → TypedStatement → TypedElse → TypedStatement
     DoStatement : TypedList → TypedStatement
-    WhileStatement : TypedExpression → TypedList → TypedStatement
-    IterateStatement : TypedIteration → TypedList → TypedStatement
+    LoopStatement : TypedHead → TypedList → TypedStatement
     CaseStatement : TypedExpression → TypedStatements → TypedStatement
 
   -- the statement after ELSE, or none

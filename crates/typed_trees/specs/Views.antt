@@ -14,11 +14,13 @@ use Rattle.typed_trees.specs.declared.module.ObjectType.TheVariants as object_ty
 use Rattle.typed_trees.specs.declared.module.Typed.{Typed}
 use Rattle.typed_trees.specs.declared.module.TypedObject.{TypedObject as Object}
 use Rattle.typed_trees.specs.declared.module.TypedProcedure.{TypedProcedure as Procedure}
+use Rattle.typed_trees.specs.declared.statement.TypedHead.{TypedHead as Head}
+use Rattle.typed_trees.specs.declared.statement.TypedHead.TheVariants as heads
 use Rattle.typed_trees.specs.declared.statement.TypedIteration.{TypedIteration as Iteration}
 use Rattle.typed_trees.specs.declared.statement.TypedList.{TypedList as StatementList}
 use Rattle.typed_trees.specs.declared.statement.TypedStatement.{TypedStatement as Statement, Row_of-TypedStatement, end_of-TypedStatement, more_of-TypedStatement, Held-TypedIf-otherwise, None' as NoElse', Some' as SomeElse'}
 use Rattle.typed_trees.specs.declared.statement.TypedStatement.TheVariants as statements
-use Rattle.typed_trees.specs.TypedTrees.{TypedExpression, NumberNode, ValueNode, LocationNode, ListNode, ConversionNode, AssignmentNode, UnaryNode, BinaryNode, CallNode, FunctionNode, ShiftNode, InputNode, TypedReference, PartOf, Subscript, NoSubscript, At, TypedTarget, StoredIn, SentTo, TypedArguments, NoArguments, MoreArguments, TypedIteration, TypedStatement, LabelStatement, NullStatement, AssignmentStatement, CallStatement, MoveStatement, ReturnStatement, HaltStatement, GotoStatement, IfStatement, DoStatement, WhileStatement, IterateStatement, CaseStatement, TypedElse, NoElse, ElseStatement, TypedStatements, NoStatements, MoreStatements, TypedList, ListOf, ObjectType, ScalarObject, StructureObject, Home, InData, InConstants, Placed, BasedOn, Elsewhere, Nowhere, InFrame, TypedObject, TypedProcedure, TypedModule}
+use Rattle.typed_trees.specs.TypedTrees.{TypedExpression, NumberNode, ValueNode, LocationNode, ListNode, ConversionNode, AssignmentNode, UnaryNode, BinaryNode, CallNode, FunctionNode, ShiftNode, InputNode, TypedReference, PartOf, Subscript, NoSubscript, At, TypedTarget, StoredIn, SentTo, TypedArguments, NoArguments, MoreArguments, TypedIteration, TypedHead, WhileHead, CountHead, TypedStatement, LabelStatement, NullStatement, AssignmentStatement, CallStatement, MoveStatement, ReturnStatement, HaltStatement, GotoStatement, IfStatement, DoStatement, LoopStatement, CaseStatement, TypedElse, NoElse, ElseStatement, TypedStatements, NoStatements, MoreStatements, TypedList, ListOf, ObjectType, ScalarObject, StructureObject, Home, InData, InConstants, Placed, BasedOn, Elsewhere, Nowhere, InFrame, TypedObject, TypedProcedure, TypedModule}
 
 abbrev mutual
   pub expression_view : Expression → TypedExpression
@@ -81,6 +83,10 @@ iteration_view head = record {
   step = option_map expression_view head.step;
 }
 
+abbrev pub head_view : Head → TypedHead
+head_view (heads.While condition) = WhileHead (expression_view condition)
+head_view (heads.Count iteration) = CountHead (iteration_view iteration)
+
 abbrev mutual
   pub statement_view : Statement → TypedStatement
   statement_view (statements.Label label) = LabelStatement label
@@ -100,10 +106,8 @@ abbrev mutual
       IfStatement (expression_view condition) (statement_view body) (held_else_view otherwise)
   statement_view (statements.Do' p first places shape rows) =
       DoStatement (ListOf first places.items (statement_rows rows))
-  statement_view (statements.While' p condition first places shape rows) =
-      WhileStatement (expression_view condition) (ListOf first places.items (statement_rows rows))
-  statement_view (statements.Iterate' p head first places shape rows) =
-      IterateStatement (iteration_view head) (ListOf first places.items (statement_rows rows))
+  statement_view (statements.Loop' p head first places shape rows) =
+      LoopStatement (head_view head) (ListOf first places.items (statement_rows rows))
   statement_view (statements.Case' p choice shape rows) =
       CaseStatement (expression_view choice) (statement_rows rows)
 

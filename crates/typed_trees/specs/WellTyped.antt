@@ -8,7 +8,7 @@ use Rattle.trees.specs.declared.expression.BinaryOperator.{BinaryOperator}
 use Rattle.trees.specs.declared.expression.BinaryOperator.TheVariants.{Multiply, Divide, Modulo}
 use Rattle.typed_trees.specs.declared.parts.ShiftFunction.{ShiftFunction}
 use Rattle.typed_trees.specs.declared.parts.ShiftFunction.TheVariants.{RotateLeft, RotateRight}
-use Rattle.typed_trees.specs.TypedTrees.{TypedExpression, NumberNode, ValueNode, LocationNode, ListNode, ConversionNode, AssignmentNode, UnaryNode, BinaryNode, CallNode, FunctionNode, ShiftNode, InputNode, TypedReference, PartOf, Subscript, NoSubscript, At, TypedTarget, StoredIn, SentTo, TypedArguments, NoArguments, MoreArguments, TypedIteration, TypedStatement, LabelStatement, NullStatement, AssignmentStatement, CallStatement, MoveStatement, ReturnStatement, HaltStatement, GotoStatement, IfStatement, DoStatement, WhileStatement, IterateStatement, CaseStatement, TypedElse, NoElse, ElseStatement, TypedStatements, NoStatements, MoreStatements, TypedList, ListOf, Home, BasedOn, Nowhere, InFrame, TypedObject, TypedProcedure, TypedModule}
+use Rattle.typed_trees.specs.TypedTrees.{TypedExpression, NumberNode, ValueNode, LocationNode, ListNode, ConversionNode, AssignmentNode, UnaryNode, BinaryNode, CallNode, FunctionNode, ShiftNode, InputNode, TypedReference, PartOf, Subscript, NoSubscript, At, TypedTarget, StoredIn, SentTo, TypedArguments, NoArguments, MoreArguments, TypedIteration, TypedHead, WhileHead, CountHead, TypedStatement, LabelStatement, NullStatement, AssignmentStatement, CallStatement, MoveStatement, ReturnStatement, HaltStatement, GotoStatement, IfStatement, DoStatement, LoopStatement, CaseStatement, TypedElse, NoElse, ElseStatement, TypedStatements, NoStatements, MoreStatements, TypedList, ListOf, Home, BasedOn, Nowhere, InFrame, TypedObject, TypedProcedure, TypedModule}
 use Rattle.typed_trees.specs.ObjectParts.{IsPartOf, IsScalarOf, IsScalar}
 use Rattle.typed_trees.specs.ExpressionTypes.{type_of}
 
@@ -148,8 +148,9 @@ Counts typed within head =
     IsSomeAnd (slice_get typed.objects head.variable)
     (λ (object : TypedObject). IsScalar head.scalar object × LiesFor within object.home)
 
-abbrev pub TypesHoldInHead : TypedModule → Within → TypedIteration → Type 0
-TypesHoldInHead typed within head =
+abbrev pub TypesHoldInHead : TypedModule → Within → TypedHead → Type 0
+TypesHoldInHead typed within (WhileHead condition) = TypesHold typed within condition
+TypesHoldInHead typed within (CountHead head) =
     Counts typed within head × TypesHold typed within head.first × TypesHold typed within head.last
     × IfSome head.step (TypesHold typed within)
 
@@ -172,9 +173,7 @@ abbrev mutual
       TypesHold typed within condition × TypesHoldIn typed within body
       × TypesHoldInElse typed within otherwise
   TypesHoldIn typed within (DoStatement body) = TypesHoldInList typed within body
-  TypesHoldIn typed within (WhileStatement condition body) =
-      TypesHold typed within condition × TypesHoldInList typed within body
-  TypesHoldIn typed within (IterateStatement head body) =
+  TypesHoldIn typed within (LoopStatement head body) =
       TypesHoldInHead typed within head × TypesHoldInList typed within body
   TypesHoldIn typed within (CaseStatement choice body) =
       TypesHold typed within choice × TypesHoldInStatements typed within body

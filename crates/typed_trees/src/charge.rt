@@ -2,14 +2,12 @@
 
 ghost use Rattle.std.specs.Prelude.{◌≡◌, ◌+◌, map, max, min};
 ghost use Rattle.std.specs.Option.{option_map};
-ghost use Rattle.typed_trees.specs.Charge.{charge_of as charge, count_of_arguments, height_of, height_of_arguments, height_of_else, height_of_iteration, height_of_list, height_of_optional, height_of_reference, height_of_statement, height_of_statements, height_of_subscript, height_of_target, height_of_targets};
-ghost use Rattle.typed_trees.specs.Views.{arguments_view, else_view, expression_view, iteration_view, list_view, procedure_view, reference_view, statement_view, statements_view, subscript_view, target_view};
+ghost use Rattle.typed_trees.specs.Charge.{charge_of as charge, count_of_arguments, height_of, height_of_arguments, height_of_else, height_of_head, height_of_list, height_of_optional, height_of_reference, height_of_statement, height_of_statements, height_of_subscript, height_of_target, height_of_targets};
+ghost use Rattle.typed_trees.specs.Views.{arguments_view, else_view, expression_view, head_view, list_view, procedure_view, reference_view, statement_view, statements_view, subscript_view, target_view};
 
 use crate::expression::{TypedExpression, TypedReference, TypedSubscript, TypedTarget};
 use crate::module::TypedProcedure;
-use crate::statement::{
-    TypedAssignment, TypedIf, TypedIteration, TypedList, TypedMove, TypedStatement,
-};
+use crate::statement::{TypedAssignment, TypedHead, TypedIf, TypedList, TypedMove, TypedStatement};
 
 /// The charge of a call of a procedure (4,294,967,295 if it is more).
 #[tactic(auto, unfolding(crate::specs::Charge::charge_of))]
@@ -175,14 +173,19 @@ fn step_height(step: &Option<TypedExpression>) -> u32
     }
 }
 
-// The height of the head of an iterative DO.
-fn iteration_height(head: &TypedIteration) -> u32
-    ensures { result ≡ min (height_of_iteration (iteration_view head.now)) 4294967295 }
+// The height of the head of a loop.
+fn head_height(head: &TypedHead) -> u32
+    ensures { result ≡ min (height_of_head (head_view head.now)) 4294967295 }
 {
-    expression_height(&head.first)
-        .max(expression_height(&head.last))
-        .max(step_height(&head.step))
-        .max(1)
+    match head {
+        TypedHead::While(condition) => expression_height(condition),
+        TypedHead::Count(iteration) => {
+            expression_height(&iteration.first)
+                .max(expression_height(&iteration.last))
+                .max(step_height(&iteration.step))
+                .max(1)
+        }
+    }
 }
 
 // The height of a statement.
@@ -202,12 +205,7 @@ fn statement_height(statement: &TypedStatement) -> u32
         TypedStatement::Return(value) => result_height(value),
         TypedStatement::If(branch) => if_height(branch),
         TypedStatement::Do(body) => list_height(body),
-        TypedStatement::While(turns) => {
-            expression_height(&turns.condition).max(list_height(&turns.body))
-        }
-        TypedStatement::Iterate(turns) => {
-            iteration_height(&turns.head).max(list_height(&turns.body))
-        }
+        TypedStatement::Loop(turns) => head_height(&turns.head).max(list_height(&turns.body)),
         TypedStatement::Case(choice) => {
             expression_height(&choice.choice).max(statements_height(choice.body.as_slice()))
         }

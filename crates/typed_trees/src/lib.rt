@@ -20,7 +20,7 @@ pub use parts::{
     TypedMember, Visibility,
 };
 pub use statement::{
-    TypedAssignment, TypedCase, TypedIf, TypedIterate, TypedIteration, TypedList, TypedMove,
-    TypedStatement, TypedWhile,
+    TypedAssignment, TypedCase, TypedHead, TypedIf, TypedIteration, TypedList, TypedLoop,
+    TypedMove, TypedStatement,
 };
 pub use word::Word;

@@ -12,6 +12,14 @@ pub struct TypedIteration {
     pub step: Option<TypedExpression>,
 }
 
+/// The head of a loop, between DO and the first statement.
+pub enum TypedHead {
+    /// WHILE a condition.
+    While(TypedExpression),
+    /// That of an iterative DO.
+    Count(TypedIteration),
+}
+
 /// Targets and the value that all of them get.
 pub struct TypedAssignment {
     pub targets: Vec<TypedTarget>,
@@ -47,8 +55,8 @@ pub enum TypedStatement {
     If(Box<TypedIf>),
     /// A simple DO.
     Do(Box<TypedList>),
-    While(Box<TypedWhile>),
-    Iterate(Box<TypedIterate>),
+    /// DO WHILE, or an iterative DO.
+    Loop(Box<TypedLoop>),
     Case(Box<TypedCase>),
 }
 
@@ -63,17 +71,10 @@ pub struct TypedIf {
     pub otherwise: Option<TypedStatement>,
 }
 
-/// DO WHILE a condition.
+/// DO WHILE or an iterative DO.
 #[cycle(statement)]
-pub struct TypedWhile {
-    pub condition: TypedExpression,
-    pub body: TypedList,
-}
-
-/// An iterative DO.
-#[cycle(statement)]
-pub struct TypedIterate {
-    pub head: TypedIteration,
+pub struct TypedLoop {
+    pub head: TypedHead,
     pub body: TypedList,
 }
 
@@ -102,6 +103,14 @@ impl Drop for TypedIteration {
             last: _,
             step: _,
         } = self;
+    }
+}
+
+impl Drop for TypedHead {
+    fn drop(self) {
+        match self {
+            TypedHead::While(_) | TypedHead::Count(_) => {}
+        }
     }
 }
 
@@ -141,8 +150,7 @@ impl Drop for TypedStatement {
             | TypedStatement::Goto(_)
             | TypedStatement::If(_)
             | TypedStatement::Do(_)
-            | TypedStatement::While(_)
-            | TypedStatement::Iterate(_)
+            | TypedStatement::Loop(_)
             | TypedStatement::Case(_) => {}
         }
     }
@@ -159,20 +167,10 @@ impl Drop for TypedIf {
     }
 }
 
-impl Drop for TypedWhile {
+impl Drop for TypedLoop {
     #[cycle(let_go_statement)]
     fn drop(self) {
-        let TypedWhile {
-            condition: _,
-            body: _,
-        } = self;
-    }
-}
-
-impl Drop for TypedIterate {
-    #[cycle(let_go_statement)]
-    fn drop(self) {
-        let TypedIterate { head: _, body: _ } = self;
+        let TypedLoop { head: _, body: _ } = self;
     }
 }
 

@@ -3,7 +3,7 @@ pub use Rattle.std.proofs.{Common.{Bool, Err, List, None, Ok, Option, Some, [], 
 pub use Rattle.std.specs.{List.{AllZip}, Option.{option_map, option_map_or}, Prelude.{filter_map, is_none, is_some, nat_lt, ◌&&◌}}
 pub use Rattle.trees.proofs.Lists.{drop_item}
 pub use Rattle.trees.specs.{Trees.{DeclarationTrees, HeadingTree, ItemTree, ModuleTree, MoreStatements as MoreTrees, ReferenceTo, ReferenceTree, StatementTree, StatementTrees}, internal.Views.{declaration_trees, element_tree, heading_tree, item_tree, module_tree, reference_tree, statement_tree, statement_trees}, declared.declaration.Member.{Member}, declared.declaration.ScalarType.{ScalarType, TheVariants.{Byte}}, declared.expression.Reference.{None', Reference, Reference', Some', out-Reference, the_lemmas}, declared.identifier.Identifier.{Identifier}, declared.identifier.Place.{Place}, declared.statement.Statement.{Statement as Tree}}
-pub use Rattle.names.proofs.TreesOfParts.{case_tree_is, do_tree_is, if_tree_is, iterate_tree_is, procedure_is, while_tree_is}
+pub use Rattle.names.proofs.TreesOfParts.{case_tree_is, do_tree_is, if_tree_is, loop_tree_is, procedure_is}
 pub use Rattle.names.specs.{Environment.{Here, Names, into_body, is_declared_again, with_object, with_procedure}, DeclaredNames.{declared_by}, declared.entity.Entity.{Entity, TheVariants.{Object}}}
 pub use Rattle.typed_trees.specs.{Frames.{FramesFit, ParametersFit}, Globals.{ListsGlobals}, Jumps.{JumpsAreSound}, Sizes.{has_member}, Storable.{IsStorable}, TypedTrees.{MoreStatements, NoStatements, TypedList, TypedModule, TypedProcedure, TypedStatement, TypedStatements}, Views.{arguments_view, list_view, module_view, procedure_view, statement_view, statements_view, target_view}, WellTyped.{IsWellTyped}, declared.expression.TypedExpression.{TypedExpression}, declared.limits.TheConstants.{FRAME_LIMIT, OBJECT_LIMIT, PARAMETER_LIMIT}, declared.module.TypedProcedure.{TypedProcedure as Procedure}, declared.parts.GlobalItem.{GlobalItem, TheVariants.{GlobalProcedure}}, declared.parts.TypedMember.{TypedMember}, declared.statement.TypedStatement.{TypedStatement as Statement, TheVariants.{Label}}}
 pub use Rattle.typing.proofs.{Jumps.JumpsLaw.{jumps_are_sound}, Kept.{Gives, gives_after, gives_ok, in_turn, then_more}, Loops.{answers_fault, fails_more, leaves_fault, made_ended, made_fails, made_goes_on, state_fails, state_goes_on}, Parameters.{Parameters.{AreNamed, objects_are}, ParametersOfTexts.{Same, parameters_fit}}, StatementsBack.{gives_back}, Storage.StorableStatements.{is_storable}, Tables.{Fits, IsNamed, Keeps, NamesFit, keeps_append, names_known}, Types.TypedLaws.{where_typed}, Types.TypesOfStatements.{frames_are_summed, globals_are_listed, is_well_typed}, Walked.{Holds, object_names, procedure_names}}

@@ -86,8 +86,7 @@ pub fn place_of_kind(kind: &StatementKind) -> Place
         | StatementKind::Do { place, .. } => *place,
         StatementKind::Assignment(assignment) => place_of_reference(&assignment.target),
         StatementKind::If(branch) => branch.place,
-        StatementKind::While(turns) => turns.place,
-        StatementKind::Iterate(turns) => turns.place,
+        StatementKind::Loop(turns) => turns.place,
         StatementKind::Case(choice) => choice.place,
     }
 }

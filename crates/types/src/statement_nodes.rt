@@ -3,16 +3,16 @@
 ghost use Rattle.std.specs.Prelude.{◌≡◌, map, Ok};
 ghost use Rattle.std.specs.Option.{option_map};
 ghost use Rattle.typed_trees.specs.TypedTrees.{AssignmentStatement, CallStatement, MoveStatement, ReturnStatement};
-ghost use Rattle.typed_trees.specs.TypedTrees.{IfStatement, DoStatement, WhileStatement, IterateStatement, CaseStatement};
+ghost use Rattle.typed_trees.specs.TypedTrees.{IfStatement, DoStatement, LoopStatement, CaseStatement};
 ghost use Rattle.typed_trees.specs.Views.{expression_view, target_view, arguments_view, statement_view};
-ghost use Rattle.typed_trees.specs.Views.{iteration_view, else_view, list_view, statements_view};
+ghost use Rattle.typed_trees.specs.Views.{head_view, else_view, list_view, statements_view};
 ghost use Rattle.typing.specs.internal.Results.{Answers};
 
 use failure::Failure;
 use std::alloc::Global;
 use typed_trees::{
-    TypedAssignment, TypedCase, TypedExpression, TypedIf, TypedIterate, TypedIteration, TypedList,
-    TypedMove, TypedStatement, TypedTarget, TypedWhile,
+    TypedAssignment, TypedCase, TypedExpression, TypedHead, TypedIf, TypedList, TypedLoop,
+    TypedMove, TypedStatement, TypedTarget,
 };
 use typing::Fault;
 
@@ -87,32 +87,17 @@ pub(crate) fn block(alloc: Global, body: TypedList) -> Result<TypedStatement, Fa
     Ok(TypedStatement::Do(Box::new(alloc, body)?))
 }
 
-/// DO WHILE a condition.
+/// DO WHILE or an iterative DO, by its head.
 #[tactic(auto, using(typed_trees::specs::declared::statement::TypedStatement::the_lemmas, typed_trees::proofs::Views::statement_rows_are))]
-pub(crate) fn while_true(
+pub(crate) fn do_loop(
     alloc: Global,
-    condition: TypedExpression,
+    head: TypedHead,
     body: TypedList,
 ) -> Result<TypedStatement, Failure<Fault>>
-    ensures view { Answers statement_view result
-        (Ok (WhileStatement (expression_view condition) (list_view body))) }
+    ensures view { Answers statement_view result (Ok (LoopStatement (head_view head) (list_view body))) }
 {
-    let turns = TypedWhile { condition, body };
-    Ok(TypedStatement::While(Box::new(alloc, turns)?))
-}
-
-/// An iterative DO.
-#[tactic(auto, using(typed_trees::specs::declared::statement::TypedStatement::the_lemmas, typed_trees::proofs::Views::statement_rows_are))]
-pub(crate) fn iterate(
-    alloc: Global,
-    head: TypedIteration,
-    body: TypedList,
-) -> Result<TypedStatement, Failure<Fault>>
-    ensures view { Answers statement_view result
-        (Ok (IterateStatement (iteration_view head) (list_view body))) }
-{
-    let turns = TypedIterate { head, body };
-    Ok(TypedStatement::Iterate(Box::new(alloc, turns)?))
+    let turns = TypedLoop { head, body };
+    Ok(TypedStatement::Loop(Box::new(alloc, turns)?))
 }
 
 /// DO CASE a number.

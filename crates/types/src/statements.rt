@@ -3,16 +3,16 @@
 ghost use Rattle.std.specs.Prelude.{◌≡◌, ◌==◌, [], ◌∷◌, length, map, Ok, Some, IfNone, IfOk, IfSome};
 ghost use Rattle.trees.specs.declared.declaration.ScalarType.TheVariants.{Address};
 ghost use Rattle.std.specs.Option.{option_map};
-ghost use Rattle.trees.specs.internal.Views.{argument_trees, expression_tree, iteration_tree, target_trees};
+ghost use Rattle.trees.specs.internal.Views.{argument_trees, expression_tree, head_tree, iteration_tree, target_trees};
 ghost use Rattle.names.specs.declared.entity.Binding.TheVariants.{BuiltInName, Declared};
 ghost use Rattle.names.specs.declared.entity.BuiltIn.TheVariants.{Move};
 ghost use Rattle.names.specs.declared.entity.Entity.TheVariants.{Object, Procedure};
-ghost use Rattle.typed_trees.specs.Views.{arguments_view, expression_view, iteration_view, object_view, statement_view, target_view};
+ghost use Rattle.typed_trees.specs.Views.{arguments_view, expression_view, head_view, iteration_view, object_view, statement_view, target_view};
 ghost use Rattle.typing.specs.internal.Expressions.{arguments};
 ghost use Rattle.typing.specs.Nodes.{as_type as converted};
 ghost use Rattle.typing.specs.References.{number_of_arguments};
 ghost use Rattle.typing.specs.Statements.{assigned};
-ghost use Rattle.typing.specs.internal.StatementChecks.{assignment, call, call_bound, counter_bound, destinations, goto, goto_bound, iteration, moved, return_from, return_with, step, value};
+ghost use Rattle.typing.specs.internal.StatementChecks.{assignment, call, call_bound, counter_bound, destinations, goto, goto_bound, iteration, loop_head, moved, return_from, return_with, step, value};
 ghost use Rattle.typing.specs.internal.Results.{Answers, Gives};
 ghost use Rattle.types.specs.internal.Walking.{call_statement, counter_type, counter_view, given_in, targets_for};
 ghost use Rattle.typed_expressions.specs.internal.Views.{constants_view, destination_view, known_view};
@@ -24,13 +24,13 @@ use crate::statement_nodes;
 use failure::Failure;
 use names::{Binding, BuiltIn, Entity};
 use std::alloc::{AllocError, Global};
-use trees::{Assignment, Expression, Identifier, Iteration, Place, ScalarType, Selector};
+use trees::{Assignment, Expression, Identifier, Iteration, LoopHead, Place, ScalarType, Selector};
 use typed_expressions::{
     Constants, Destination, Known, as_type, refuse, require, require_writable, target_of,
 };
 use typed_trees::{
-    Home, ObjectType, TypedExpression, TypedIteration, TypedMove, TypedObject, TypedStatement,
-    TypedTarget,
+    Home, ObjectType, TypedExpression, TypedHead, TypedIteration, TypedMove, TypedObject,
+    TypedStatement, TypedTarget,
 };
 use typing::{Cause, Fault};
 
@@ -367,8 +367,8 @@ impl Checker {
         }
     }
 
-    /// The head of an iterative DO.
-    pub(crate) fn iteration(&mut self, tree: &Iteration) -> Result<TypedIteration, Failure<Fault>>
+    // The head of an iterative DO.
+    fn iteration(&mut self, tree: &Iteration) -> Result<TypedIteration, Failure<Fault>>
         ensures { Gives iteration_view result (progress_view self.new)
             (iteration (iteration_tree tree.now) (progress_view self.old)) }
     {
@@ -384,5 +384,16 @@ impl Checker {
             last,
             step,
         })
+    }
+
+    /// The head of a loop.
+    pub(crate) fn loop_head(&mut self, tree: &LoopHead) -> Result<TypedHead, Failure<Fault>>
+        ensures { Gives head_view result (progress_view self.new)
+            (loop_head (head_tree tree.now) (progress_view self.old)) }
+    {
+        match tree {
+            LoopHead::While(condition) => Ok(TypedHead::While(self.value(condition)?)),
+            LoopHead::Count(iteration) => Ok(TypedHead::Count(self.iteration(iteration)?)),
+        }
     }
 }

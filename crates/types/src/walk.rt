@@ -3,7 +3,7 @@
 ghost use Rattle.std.specs.Prelude.{◌≡◌, Ok, Err, IfOk, OnOk};
 ghost use Rattle.failure.specs.Failure.{IfFault};
 ghost use Rattle.trees.specs.internal.Views.{block_declarations, block_statements, declaration_tree, declaration_trees, else_tree, kind_tree, module_tree, statement_tree, statement_trees};
-ghost use Rattle.names.specs.internal.TreesOfParts.{case_tree, do_tree, if_tree, iterate_tree, procedure_parts, while_tree};
+ghost use Rattle.names.specs.internal.TreesOfParts.{case_tree, do_tree, if_tree, loop_tree, procedure_parts};
 ghost use Rattle.typed_trees.specs.Views.{else_view, list_view, module_view, procedure_view, statement_view, statements_view};
 ghost use Rattle.typing.specs.internal.StatementChecks.{list_of};
 ghost use Rattle.typing.specs.Statements.{places_from};
@@ -31,8 +31,8 @@ use crate::statement_nodes;
 use failure::Failure;
 use std::alloc::Global;
 use trees::{
-    Block as BlockTree, Declaration, DoCase, DoWhile, IfThen, IterativeDo, Module, Name, Place,
-    Procedure, Statement, StatementKind,
+    Block as BlockTree, Declaration, DoCase, IfThen, Loop, Module, Name, Place, Procedure,
+    Statement, StatementKind,
 };
 use typed_trees::{Typed, TypedList, TypedProcedure, TypedStatement, Visibility};
 use typing::Fault;
@@ -93,8 +93,7 @@ impl Checker {
                 place,
                 block: inner,
             } => self.simple_do(block, *place, inner),
-            StatementKind::While(turns) => self.do_while(block, turns),
-            StatementKind::Iterate(turns) => self.do_iterate(block, turns),
+            StatementKind::Loop(turns) => self.do_loop(block, turns),
             StatementKind::Case(choice) => self.do_case(block, choice),
         }
     }
@@ -167,34 +166,15 @@ impl Checker {
         statement_nodes::block(self.alloc, body)
     }
 
-    // DO WHILE.
+    // DO WHILE or an iterative DO.
     #[cycle(walk)]
-    fn do_while(
-        &mut self,
-        block: Block<'_>,
-        turns: &DoWhile,
-    ) -> Result<TypedStatement, Failure<Fault>>
+    fn do_loop(&mut self, block: Block<'_>, turns: &Loop) -> Result<TypedStatement, Failure<Fault>>
         ensures { Gives statement_view result (progress_view self.new)
-            (kind (block_view block.entry) (while_tree turns.now) (progress_view self.old)) }
+            (kind (block_view block.entry) (loop_tree turns.now) (progress_view self.old)) }
     {
-        let condition = self.value(&turns.condition)?;
+        let head = self.loop_head(&turns.head)?;
         let body = self.list(block, turns.body.as_slice())?;
-        statement_nodes::while_true(self.alloc, condition, body)
-    }
-
-    // An iterative DO.
-    #[cycle(walk)]
-    fn do_iterate(
-        &mut self,
-        block: Block<'_>,
-        turns: &IterativeDo,
-    ) -> Result<TypedStatement, Failure<Fault>>
-        ensures { Gives statement_view result (progress_view self.new)
-            (kind (block_view block.entry) (iterate_tree turns.now) (progress_view self.old)) }
-    {
-        let head = self.iteration(&turns.iteration)?;
-        let body = self.list(block, turns.body.as_slice())?;
-        statement_nodes::iterate(self.alloc, head, body)
+        statement_nodes::do_loop(self.alloc, head, body)
     }
 
     // DO CASE.

@@ -6,6 +6,7 @@ pub mod Jumps
 pub mod PartsWithoutStatements
 pub mod Declarations
 pub mod Kept
+pub mod Heads
 pub mod Tables
 pub mod NamesBack
 pub mod ReferencesBack

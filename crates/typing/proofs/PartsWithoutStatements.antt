@@ -1,6 +1,7 @@
 -- The parts of a module that have no statements in them: expressions, simple statements, heads of loops.
-use Rattle.typing.proofs.Prelude.{◌≡◌, List, Option, None, Some, sym, subst, All, IfOk, IfSome, is_none, ◌==◌, option_map_or, ScalarType, Identifier, Place, ExpressionTree, ReferenceTree, IterationTree, Entity, Procedure, Label, Binding, Declared, BuiltInName, UnknownLabel, Move, jump_of, Here, Body, Names, known_in, TypedArguments, NoTyped, MoreTyped, TypedStatement, TypedProcedure, Constants, LabelsOf, JumpsStay, ListsStand, IsNoLabel, BodyIsSound, ArgumentCount, CallOfTyped, require, Known, Given, place_of, count_of_given, bound, procedure_of, call_arguments, expression, Owner, TheModule, OfProcedure, Progress, with_constants, value, destinations, assignment, moved, call_bound, call, return_with, return_from, goto_bound, goto, counter_bound, step, iteration}
+use Rattle.typing.proofs.Prelude.{◌≡◌, List, Option, None, Some, sym, subst, All, IfOk, IfSome, is_none, ◌==◌, option_map_or, ScalarType, Identifier, Place, ExpressionTree, ReferenceTree, LoopHeadTree, Entity, Procedure, Label, Binding, Declared, BuiltInName, UnknownLabel, Move, jump_of, Here, Body, Names, known_in, TypedArguments, NoTyped, MoreTyped, TypedStatement, TypedProcedure, Constants, LabelsOf, JumpsStay, ListsStand, IsNoLabel, BodyIsSound, ArgumentCount, CallOfTyped, require, Known, Given, place_of, count_of_given, bound, procedure_of, call_arguments, expression, Owner, TheModule, OfProcedure, Progress, with_constants, value, destinations, assignment, moved, call_bound, call, return_with, return_from, goto_bound, goto, loop_head}
 use Rattle.typing.proofs.Steps.{then_checks, then_any}
+use Rattle.typing.proofs.Heads.{head_keeps}
 use Rattle.typing.proofs.Jumps.KnownLabels.{IsLabelAround, AreAround}
 
 -- a place of a text, with the labels that are known there and the bodies around its own
@@ -109,18 +110,8 @@ module _ {lists : List Names} {outer : List Body} where
       (are.known label.name)))
       (λ typed is. (is, at))
 
-  step_is : (tree : Option ExpressionTree) (progress : Progress)
-      → IsAt lists outer progress.known → IfOk (step tree progress) (λ typed. IsAt lists outer typed.1.known)
-  step_is None progress at = at
-  step_is (Some tree) progress at =
-      then_checks _ _ (value tree progress) _ (value_is tree progress at) (λ typed after. after)
-
-  pub iteration_is : (tree : IterationTree) (progress : Progress)
-      → IsAt lists outer progress.known → IfOk (iteration tree progress)
+  pub head_is : (head : LoopHeadTree) (progress : Progress)
+      → IsAt lists outer progress.known → IfOk (loop_head head progress)
       (λ typed. IsAt lists outer typed.1.known)
-  iteration_is tree progress at =
-      then_any _ (bound progress.known tree.variable) _ (λ binding.
-      then_any _ (counter_bound progress.known binding tree.variable) _ (λ counter.
-      then_checks _ _ (value tree.first progress) _ (value_is tree.first progress at) (λ first at_first.
-      then_checks _ _ (value tree.last first.1) _ (value_is tree.last first.1 at_first) (λ last at_last.
-      then_checks _ _ (step tree.step last.1) _ (step_is tree.step last.1 at_last) (λ by at_end. at_end)))))
+  head_is head progress at =
+      head_keeps (λ (progress : Progress). IsAt lists outer progress.known) value_is head progress at

@@ -1,7 +1,8 @@
 -- Statements without statements in them are given back.
-use Rattle.typing.proofs.Prelude.{◌≡◌, ℕ, List, [], ◌∷◌, map, Option, None, Some, option_map, is_none, ◌==◌, codes, refl, sym, ap, ap₂, ◌∙◌, ScalarType, Address, Identifier, Place, ExpressionTree, ReferenceTree, ArgumentTrees, IterationTree, StatementKindTree, Binding, Declared, BuiltInName, Move, Procedure, Label, jump_of, ArgumentCount, CallOfTyped, TypedExpression, TypedArguments, NoTyped, MoreTyped, TypedIteration, TypedStatement, LabelStatement, TypedModule, Constants, type_of, Checked, require, Destination, target_of, Known, place_of, count_of_given, Owner, TheModule, OfProcedure, Progress, with_constants, value, destinations, assignment, moved, call_bound, call, return_with, return_from, goto_bound, goto, Counter, counter_bound, step, iteration, nowhere, named, nameless, plain_expression, plain_reference, plain_arguments, plain_iteration, plain_kind, object_name, untyped_expression, untyped_target, untyped_arguments, untyped_iteration, untyped_kind}
+use Rattle.typing.proofs.Prelude.{◌≡◌, ℕ, List, [], ◌∷◌, map, Option, None, Some, option_map, is_none, ◌==◌, codes, refl, sym, ap, ap₂, ◌∙◌, ScalarType, Address, Identifier, Place, ExpressionTree, ReferenceTree, ArgumentTrees, IterationTree, LoopHeadTree, StatementKindTree, Binding, Declared, BuiltInName, Move, Procedure, Label, jump_of, ArgumentCount, CallOfTyped, TypedExpression, TypedArguments, NoTyped, MoreTyped, TypedHead, TypedIteration, TypedStatement, LabelStatement, TypedModule, Constants, type_of, Checked, require, Destination, target_of, Known, place_of, count_of_given, Owner, TheModule, OfProcedure, Progress, with_constants, value, destinations, assignment, moved, call_bound, call, return_with, return_from, goto_bound, goto, Counter, counter_bound, step, iteration, loop_head, nowhere, named, nameless, plain_expression, plain_reference, plain_arguments, plain_head, plain_iteration, plain_kind, object_name, untyped_expression, untyped_target, untyped_arguments, untyped_head, untyped_iteration, untyped_kind}
 use Rattle.trees.specs.Trees as trees
 use Rattle.typing.proofs.Kept.{Gives, gives_ok, gives_fault, in_turn, gives_after, then_more, Kept, kept_at, kept_more, kept_both}
+use Rattle.typing.proofs.Heads.{head_gives}
 use Rattle.typing.proofs.NamesBack.{Binds, is_bound, is_procedure, bound_spelled}
 use Rattle.typing.proofs.ReferencesBack.{as_type_back}
 use Rattle.typing.proofs.ExpressionsBack.{expression_kept, arguments_kept, target_kept, given_arguments, call_kept, counter_named}
@@ -178,7 +179,7 @@ counter-walks binding name progress holds is =
     then_more (counter_named progress.known binding name is) λ counter same.
     walked_nothing progress holds (λ tables reaches. same tables (agrees tables progress holds reaches))
 
-pub iteration-walks : (tree : IterationTree) (progress : Progress) → Holds progress
+iteration-walks : (tree : IterationTree) (progress : Progress) → Holds progress
     → Gives
     (λ (done : TypedIteration × Progress).
     Walked progress done.1 [] (λ tables. untyped_iteration tables done.0 ≡ plain_iteration tree))
@@ -190,3 +191,18 @@ iteration-walks tree progress holds =
     in_turn (value-walks tree.last first.1 w₁.holds) λ last w₂.
     in_turn (step-walks tree.step last.1 w₂.holds) λ by w₃.
     gives_ok (walked_as (walked_then w (walked_then w₁ (walked_then w₂ w₃))) (λ tables back. cc))
+
+-- the head of a loop
+pub head-walks : (head : LoopHeadTree) (progress : Progress) → Holds progress
+    → Gives
+    (λ (done : TypedHead × Progress).
+    Walked progress done.1 [] (λ tables. untyped_head tables done.0 ≡ plain_head head))
+    (loop_head head progress)
+head-walks head progress holds =
+    head_gives
+    (λ head (done : TypedHead × Progress).
+    Walked progress done.1 [] (λ tables. untyped_head tables done.0 ≡ plain_head head))
+    progress
+    (λ tree. then_more (value-walks tree progress holds) λ tested w. walked_as w (λ tables back. cc))
+    (λ tree. then_more (iteration-walks tree progress holds) λ counted w. walked_as w (λ tables back. cc))
+    head

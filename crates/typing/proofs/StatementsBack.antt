@@ -7,7 +7,7 @@ use Rattle.typing.proofs.Kept.{Gives, gives_ok, gives_fault, in_turn, gives_afte
 use Rattle.typing.proofs.Tables.{Fits, at_the_start-fits, into_block-fits, out_of_block-fits, into_list-fits, out_of_list-fits, with_label-fits}
 use Rattle.typing.proofs.Walked.{Holds, Reaches, bodies_back, Walked, walked_nothing, walked_then, walked_as, walked_from, walked_to}
 use Rattle.typing.proofs.DeclarationsBack.{Nothing, declare_elements-walk, open_procedure-opens, walked_procedure}
-use Rattle.typing.proofs.SimpleStatementsBack.{IsNoLabel, KindWalks, value-walks, assignment-walks, call-walks, return_from-walks, goto-walks, iteration-walks}
+use Rattle.typing.proofs.SimpleStatementsBack.{IsNoLabel, KindWalks, value-walks, assignment-walks, call-walks, return_from-walks, goto-walks, head-walks}
 
 -- what is given back of a statement with its labels, of one without, and of others
 abbrev StatementBack : StatementTree → TypedStatement → TypedModule → Type 0
@@ -120,16 +120,10 @@ mutual
       (walked_as
       (walked_to (out_of_block done.1.known.here) out_of_block-fits (walked_from (walked_then w₁ w₂)))
       (λ tables back. (tt, ap (λ k. trees.DoStatement nowhere NoDeclarations k) back.1)))
-  kind-walks block (trees.WhileStatement place condition body) progress holds =
-      in_turn (value-walks condition progress holds) λ tested w₁.
+  kind-walks block (trees.LoopStatement place head body) progress holds =
+      in_turn (head-walks head progress holds) λ headed w₁.
       in_turn
-      (list-walks body (bodies_in_statements body) (λ label. statements block body label) tested.1 w₁.holds
-      (λ label inside h. statements-walk block body label inside h)) λ done w₂.
-      gives_ok (walked_as (walked_then w₁ w₂) (λ tables back. (tt, cc)))
-  kind-walks block (trees.IterateStatement place head body) progress holds =
-      in_turn (iteration-walks head progress holds) λ counted w₁.
-      in_turn
-      (list-walks body (bodies_in_statements body) (λ label. statements block body label) counted.1 w₁.holds
+      (list-walks body (bodies_in_statements body) (λ label. statements block body label) headed.1 w₁.holds
       (λ label inside h. statements-walk block body label inside h)) λ done w₂.
       gives_ok (walked_as (walked_then w₁ w₂) (λ tables back. (tt, cc)))
   kind-walks block (trees.CaseStatement place choice body) progress holds =

@@ -2,7 +2,7 @@
 use Rattle.std.specs.Prelude.{ℕ, ◌+◌, List, [], ◌∷◌, ◌++◌, length, map}
 use Rattle.trees.specs.declared.identifier.Identifier.{Identifier}
 use Rattle.trees.specs.declared.identifier.Place.{Place}
-use Rattle.trees.specs.Trees.{ReferenceTree, ReferenceTo, StatementTree, LabelledStatement, StatementKindTree, NullStatement, AssignmentStatement, CallStatement, ReturnStatement, HaltStatement, GotoStatement, IfStatement, DoStatement, WhileStatement, IterateStatement, CaseStatement, StatementTrees, NoStatements, MoreStatements}
+use Rattle.trees.specs.Trees.{ReferenceTree, ReferenceTo, StatementTree, LabelledStatement, StatementKindTree, NullStatement, AssignmentStatement, CallStatement, ReturnStatement, HaltStatement, GotoStatement, IfStatement, DoStatement, LoopStatement, CaseStatement, StatementTrees, NoStatements, MoreStatements}
 use Rattle.names.specs.Environment.{Here}
 use Rattle.typed_trees.specs.TypedTrees.{TypedExpression, TypedStatement, LabelStatement, AssignmentStatement as TypedAssignment, TypedStatements, MoreStatements as MoreTypedStatements, Constants}
 use Rattle.typing.specs.References.{no_place, place_of}
@@ -56,8 +56,7 @@ place_of_kind (HaltStatement place) = place
 place_of_kind (GotoStatement place label) = place
 place_of_kind (IfStatement place condition body otherwise) = place
 place_of_kind (DoStatement place declared body) = place
-place_of_kind (WhileStatement place condition body) = place
-place_of_kind (IterateStatement place head body) = place
+place_of_kind (LoopStatement place head body) = place
 place_of_kind (CaseStatement place choice body) = place
 
 abbrev pub place_of_statement : StatementTree → Place

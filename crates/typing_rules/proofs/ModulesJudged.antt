@@ -1,7 +1,7 @@
 -- Statements, declarations and modules: what the typing gives of one has a typing by the rules, and the fault
 -- that it gives is one of the rules.
 use Rattle.typing_rules.proofs.Prelude.{ℕ, ◌+◌, [], ◌∷◌, length, refl, binding_of, UnknownName}
-use Rattle.trees.specs.Trees.{StatementTree, LabelledStatement, StatementKindTree, NullStatement, AssignmentStatement, CallStatement, ReturnStatement, HaltStatement, GotoStatement, IfStatement, DoStatement, WhileStatement, IterateStatement, CaseStatement, ElseTree, NoElse, ElseStatement, StatementTrees, NoStatements, MoreStatements, DeclarationTree, DeclareTree, ProcedureTree, DeclarationTrees, NoDeclarations, MoreDeclarations, ModuleTree}
+use Rattle.trees.specs.Trees.{StatementTree, LabelledStatement, StatementKindTree, NullStatement, AssignmentStatement, CallStatement, ReturnStatement, HaltStatement, GotoStatement, IfStatement, DoStatement, LoopStatement, CaseStatement, ElseTree, NoElse, ElseStatement, StatementTrees, NoStatements, MoreStatements, DeclarationTree, DeclareTree, ProcedureTree, DeclarationTrees, NoDeclarations, MoreDeclarations, ModuleTree}
 use Rattle.names.specs.BuiltIns.{jump_of}
 use Rattle.names.specs.Environment.{into_list}
 use Rattle.names.specs.DeclaredNames.{labels_of}
@@ -11,12 +11,12 @@ use Rattle.typing.specs.Statements.{with_here, with_constants}
 use Rattle.typing.specs.internal.StatementChecks.{list_of}
 use Rattle.typing.specs.Modules.{inner_block, entered, module_block, at_the_beginning}
 use Rattle.typing.specs.internal.Typing.{kind, alone, else_part, cases, statements, declaration, declarations, typing_of}
-use Rattle.typing_rules.specs.Modules.{StatementTyping, null, assignment, halt, if_then, simple_do, do_while, iterative_do, do_case, AloneTyping, unlabelled, ElseTyping, no_else, with_else, CasesTyping, no_case, next_case, StatementsTyping, no_statement, next_statement, ListTyping, list, DeclarationTyping, declare, procedure, DeclarationsTyping, no_declaration, next_declaration, ModuleTyping, whole}
-use Rattle.typing_rules.specs.ModuleFaults.{StatementFault, in_targets, in_source, call_of_unknown, in_condition, in_then, in_else, in_declarations_of_do, in_do, in_while_condition, in_while, in_head, in_iterated, in_choice, in_cases, AloneFault, misplaced_label, in_alone, ElseFault, after_else, CasesFault, in_first_case, in_other_cases, StatementsFault, in_labels, in_first_statement, in_other_statements, ListFault, in_list, DeclarationFault, in_declare, in_heading, in_own_declarations, in_parameters, with_body, in_body, DeclarationsFault, in_first_declaration, in_other_declarations, ModuleFault, in_declarations, in_statements}
+use Rattle.typing_rules.specs.Modules.{StatementTyping, null, assignment, halt, if_then, simple_do, loop, do_case, AloneTyping, unlabelled, ElseTyping, no_else, with_else, CasesTyping, no_case, next_case, StatementsTyping, no_statement, next_statement, ListTyping, list, DeclarationTyping, declare, procedure, DeclarationsTyping, no_declaration, next_declaration, ModuleTyping, whole}
+use Rattle.typing_rules.specs.ModuleFaults.{StatementFault, in_targets, in_source, call_of_unknown, in_condition, in_then, in_else, in_declarations_of_do, in_do, in_head, in_loop, in_choice, in_cases, AloneFault, misplaced_label, in_alone, ElseFault, after_else, CasesFault, in_first_case, in_other_cases, StatementsFault, in_labels, in_first_statement, in_other_statements, ListFault, in_list, DeclarationFault, in_declare, in_heading, in_own_declarations, in_parameters, with_body, in_body, DeclarationsFault, in_first_declaration, in_other_declarations, ModuleFault, in_declarations, in_statements}
 use Rattle.typing_rules.proofs.Judged.{Judged, judged_ok, judged_fault, then_judged, judged_more, then_found}
 use Rattle.typing_rules.proofs.ItemsTyped.{elements_judged}
 use Rattle.typing_rules.proofs.ProceduresTyped.{heading_judged, objects_judged, body_judged}
-use Rattle.typing_rules.proofs.StatementsJudged.{then_reached, value_judged, targets_judged, iteration_judged, labels_judged, call_judged, return_judged, goto_judged}
+use Rattle.typing_rules.proofs.StatementsJudged.{then_reached, value_judged, targets_judged, head_judged, labels_judged, call_judged, return_judged, goto_judged}
 
 list_judged : (block : Block) (trees : StatementTrees) (progress : Progress)
     → Judged (λ found. StatementsTyping block progress.known.here.labels
@@ -68,25 +68,15 @@ mutual
       (with_here (into_list (labels_of body) opened.known.here) opened)))
       (λ fault its. in_do is its) (λ typed its.
       judged_ok (simple_do is its)))
-  statement_judged block (WhileStatement place condition body) progress =
-      then_reached _ (value_judged condition progress) (λ fault is. in_while_condition is)
-      (λ tested constants is.
+  statement_judged block (LoopStatement place head body) progress =
+      then_reached _ (head_judged head progress) (λ fault is. in_head is) (λ headed constants is.
       then_judged
       (list_judged block body (with_constants constants progress)
       (statements_judged block body progress.known.here.labels
       (with_here (into_list (labels_of body) progress.known.here) (with_constants constants progress))))
-      (λ fault its. in_while is its)
+      (λ fault its. in_loop is its)
       (λ typed its.
-      judged_ok (do_while is its)))
-  statement_judged block (IterateStatement place head body) progress =
-      then_reached _ (iteration_judged head progress) (λ fault is. in_head is) (λ iteration constants is.
-      then_judged
-      (list_judged block body (with_constants constants progress)
-      (statements_judged block body progress.known.here.labels
-      (with_here (into_list (labels_of body) progress.known.here) (with_constants constants progress))))
-      (λ fault its. in_iterated is its)
-      (λ typed its.
-      judged_ok (iterative_do is its)))
+      judged_ok (loop is its)))
   statement_judged block (CaseStatement place choice body) progress =
       then_reached _ (value_judged choice progress) (λ fault is. in_choice is) (λ chosen constants is.
       then_judged (cases_judged block body (with_constants constants progress))

@@ -2,22 +2,22 @@
 -- is at most one, and none where there is a typing.
 use Rattle.typing_rules.proofs.Prelude.{◌≡◌, ◌∙◌, ℕ, Bool, true, false, not, List, Option, Some, None, Err, refl, sym, ap, subst, slice_get, eq-eqb, ne_eqb, Identifier, Place, ExpressionTree, ReferenceTree, ArgumentTrees, Binding, Declared, BuiltInName, UnknownLabel, BuiltIn, Object, Procedure, Label, Definition, TypedProcedure, Constants, CallOfNoProcedure, NoVariable, Cause, Fault, Checked, ◌>>=◌, require, arguments, Known, scalar_of, at_name, ExpressionFault}
 use Rattle.std.specs.Prelude.{◌&&◌, is_none}
-use Rattle.trees.specs.Trees.{IterationTree, StatementTree, StatementKindTree, ElseTree, StatementTrees, DeclarationTree, DeclarationTrees, ModuleTree}
+use Rattle.trees.specs.Trees.{IterationTree, LoopHeadTree, StatementTree, StatementKindTree, ElseTree, StatementTrees, DeclarationTree, DeclarationTrees, ModuleTree}
 use Rattle.names.specs.declared.entity.BuiltIn.TheVariants as built_ins
 use Rattle.names.specs.Environment.{Here}
 use Rattle.typing.specs.declared.fault.Cause.TheVariants.{ReturnOutside, UnknownLabel as NoLabel}
 use Rattle.typing.specs.Blocks.{Owner, TheModule, Block, Progress}
 use Rattle.typing.specs.Statements.{with_constants}
-use Rattle.typing.specs.internal.StatementChecks.{value, destinations, call_bound, return_from, goto_bound, counter_bound, step, iteration, declare_labels, list_of}
+use Rattle.typing.specs.internal.StatementChecks.{value, destinations, call_bound, return_from, goto_bound, counter_bound, step, iteration, loop_head, declare_labels, list_of}
 use Rattle.typing.specs.internal.Typing.{kind, alone, else_part, cases, statements, declaration, declarations, typing_of}
-use Rattle.typing_rules.specs.ModuleFaults.{StatementFault, in_targets, in_source, call_of_unknown, call_of_no_procedure, call_of_typed, call_with_wrong_count, in_argument_of_call, move_with_wrong_count, in_argument_of_move, return_outside, value_for_no_type, no_value_for_type, in_returned_value, unknown_label, in_condition, in_then, in_else, in_declarations_of_do, in_do, in_while_condition, in_while, in_head, in_iterated, in_choice, in_cases, AloneFault, misplaced_label, in_alone, ElseFault, after_else, CasesFault, in_first_case, in_other_cases, StatementsFault, in_labels, in_first_statement, in_other_statements, ListFault, in_list, DeclarationFault, in_declare, in_heading, in_own_declarations, in_parameters, with_body, in_body, DeclarationsFault, in_first_declaration, in_other_declarations, ModuleFault, in_declarations, in_statements}
-use Rattle.typing_rules.specs.StatementFaults.{TargetsFault, in_first_target, in_other_targets, CounterFault, unknown_counter, counter_of_no_variable, counter_with_data, counter_in_array, based_counter, counter_with_members, StepFault, in_step, IterationFault, in_counter, in_first_value, in_last_value, in_step_value, LabelsFault, label_again, in_other_labels}
+use Rattle.typing_rules.specs.ModuleFaults.{StatementFault, in_targets, in_source, call_of_unknown, call_of_no_procedure, call_of_typed, call_with_wrong_count, in_argument_of_call, move_with_wrong_count, in_argument_of_move, return_outside, value_for_no_type, no_value_for_type, in_returned_value, unknown_label, in_condition, in_then, in_else, in_declarations_of_do, in_do, in_head, in_loop, in_choice, in_cases, AloneFault, misplaced_label, in_alone, ElseFault, after_else, CasesFault, in_first_case, in_other_cases, StatementsFault, in_labels, in_first_statement, in_other_statements, ListFault, in_list, DeclarationFault, in_declare, in_heading, in_own_declarations, in_parameters, with_body, in_body, DeclarationsFault, in_first_declaration, in_other_declarations, ModuleFault, in_declarations, in_statements}
+use Rattle.typing_rules.specs.StatementFaults.{TargetsFault, in_first_target, in_other_targets, CounterFault, unknown_counter, counter_of_no_variable, counter_with_data, counter_in_array, based_counter, counter_with_members, StepFault, in_step, IterationFault, in_counter, in_first_value, in_last_value, in_step_value, HeadFault, in_while_condition, in_iteration, LabelsFault, label_again, in_other_labels}
 use Rattle.typing_rules.proofs.Judged.{fault_of, then_ok, then_fault, passed, failed, got, got_none}
 use Rattle.typing_rules.proofs.ExpressionsTyped.{target_is}
 use Rattle.typing_rules.proofs.ExpressionsRefused.{is_nothing, NoObject, no_object, fault_is, values_fault, target_fault_is}
 use Rattle.typing_rules.proofs.ItemsTyped.{elements_fault}
 use Rattle.typing_rules.proofs.ProceduresTyped.{heading_is, objects_are, body_is, heading_fault, objects_fault, body_fault}
-use Rattle.typing_rules.proofs.ModulesTyped.{value_is, targets_are, counter_is, iteration_is, labels_are, return_is, statement_is, alone_is, declaration_is, declarations_are}
+use Rattle.typing_rules.proofs.ModulesTyped.{value_is, targets_are, counter_is, head_is, labels_are, return_is, statement_is, alone_is, declaration_is, declarations_are}
 
 value_fault : {tree : ExpressionTree} {fault : Fault} (progress : Progress)
     → ExpressionFault progress.known progress.constants tree fault
@@ -99,6 +99,12 @@ iteration_fault progress (in_step_value {one = one} {two = two} is first last fa
     then_ok _ (got _ _ is.variable.named) (then_ok _ (counter_is is) (then_ok _ (value_is progress first)
     (then_ok _ (value_is (with_constants one progress) last)
     (then_fault _ (step_fault (with_constants two progress) fault)))))
+
+head_fault : {head : LoopHeadTree} {fault : Fault} (progress : Progress)
+    → HeadFault progress.known progress.constants head fault
+    → loop_head head progress ≡ Err fault
+head_fault progress (in_while_condition is) = then_fault _ (value_fault progress is)
+head_fault progress (in_iteration is) = then_fault _ (iteration_fault progress is)
 
 labels_fault : {here : Here} {labels : List Identifier} {fault : Fault}
     → LabelsFault here labels fault
@@ -197,12 +203,9 @@ mutual
       then_ok _ (value_is progress condition) (then_ok _ (alone_is body) (then_fault _ (else_fault is)))
   statement_fault (in_declarations_of_do is) = then_fault _ (declarations_fault is)
   statement_fault (in_do declared is) = then_ok _ (declarations_are declared) (then_fault _ (list_fault is))
-  statement_fault (in_while_condition {progress = progress} is) = then_fault _ (value_fault progress is)
-  statement_fault (in_while {progress = progress} condition is) =
-      then_ok _ (value_is progress condition) (then_fault _ (list_fault is))
-  statement_fault (in_head {progress = progress} is) = then_fault _ (iteration_fault progress is)
-  statement_fault (in_iterated {progress = progress} head is) =
-      then_ok _ (iteration_is progress head) (then_fault _ (list_fault is))
+  statement_fault (in_head {progress = progress} is) = then_fault _ (head_fault progress is)
+  statement_fault (in_loop {progress = progress} head is) =
+      then_ok _ (head_is progress head) (then_fault _ (list_fault is))
   statement_fault (in_choice {progress = progress} is) = then_fault _ (value_fault progress is)
   statement_fault (in_cases {progress = progress} choice is) =
       then_ok _ (value_is progress choice) (then_fault _ (cases_fault is))

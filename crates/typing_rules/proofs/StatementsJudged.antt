@@ -2,7 +2,7 @@
 -- and the fault that it gives is one of the rules.
 use Rattle.typing_rules.proofs.Prelude.{not-false, not-true, ◌≡◌, ℕ, ◌==◌, Bool, true, false, not, List, [], ◌∷◌, length, Option, Some, None, Ok, refl, sym, subst, arith, slice_get, inl, inr, ◌⊎◌, eqb-true, eqb-false, ScalarType, Identifier, Place, ExpressionTree, ReferenceTree, ReferenceTo, ArgumentTrees, Binding, Declared, BuiltInName, UnknownLabel, BuiltIn, Object, Procedure, Label, Definition, binding_of, TypedArguments, ObjectType, ScalarObject, StructureObject, TypedProcedure, Constants, ArgumentCount, CallOfNoProcedure, ConstantWritten, NoVariable, UnknownName, Fault, Checked, ◌>>=◌, arguments, Known, number_of_arguments, scalar_of, is_constant, StandsFor, IsVariable, IsProcedure, IsBuiltIn, IsNoProcedure, ExpressionTyping, ValuesTyping, no_values, next_value, ExpressionFault}
 use Rattle.std.specs.Prelude.{◌&&◌, is_none}
-use Rattle.trees.specs.Trees.{HeadingTree, IterationTree, CallStatement, ReturnStatement, GotoStatement}
+use Rattle.trees.specs.Trees.{HeadingTree, IterationTree, LoopHeadTree, WhileHead, CountHead, CallStatement, ReturnStatement, GotoStatement}
 use Rattle.names.specs.declared.entity.BuiltIn.TheVariants as built_ins
 use Rattle.names.specs.BuiltIns.{jump_of}
 use Rattle.names.specs.Environment.{Here, with_label, is_label_again}
@@ -12,11 +12,11 @@ use Rattle.typing.specs.declared.fault.Cause.TheVariants.{DeclaredTwice, CallOfT
 use Rattle.typing.specs.Blocks.{Owner, TheModule, OfProcedure, Block, Progress}
 use Rattle.typing.specs.Items.{is_not_based}
 use Rattle.typing.specs.Statements.{with_constants}
-use Rattle.typing.specs.internal.StatementChecks.{value, destinations, moved, call_bound, return_with, return_from, goto_bound, counter_bound, step, iteration, declare_labels}
+use Rattle.typing.specs.internal.StatementChecks.{value, destinations, moved, call_bound, return_with, return_from, goto_bound, counter_bound, step, iteration, loop_head, declare_labels}
 use Rattle.typing_rules.specs.Modules.{StatementTyping, call, move, return, return_value, goto}
 use Rattle.typing_rules.specs.ModuleFaults.{StatementFault, call_of_no_procedure, call_of_typed, call_with_wrong_count, in_argument_of_call, move_with_wrong_count, in_argument_of_move, return_outside, value_for_no_type, no_value_for_type, in_returned_value, unknown_label}
-use Rattle.typing_rules.specs.Statements.{TargetsTyping, no_targets, next_target, IsCounter, StepTyping, no_step, a_step, IterationTyping, iterates, AreNewLabels, no_labels, next_label}
-use Rattle.typing_rules.specs.StatementFaults.{TargetsFault, in_first_target, in_other_targets, CounterFault, unknown_counter, counter_of_no_variable, counter_with_data, counter_in_array, based_counter, counter_with_members, StepFault, in_step, IterationFault, in_counter, in_first_value, in_last_value, in_step_value, LabelsFault, label_again, in_other_labels}
+use Rattle.typing_rules.specs.Statements.{TargetsTyping, no_targets, next_target, IsCounter, StepTyping, no_step, a_step, IterationTyping, iterates, HeadTyping, do_while, iterative_do, AreNewLabels, no_labels, next_label}
+use Rattle.typing_rules.specs.StatementFaults.{TargetsFault, in_first_target, in_other_targets, CounterFault, unknown_counter, counter_of_no_variable, counter_with_data, counter_in_array, based_counter, counter_with_members, StepFault, in_step, IterationFault, in_counter, in_first_value, in_last_value, in_step_value, HeadFault, in_while_condition, in_iteration, LabelsFault, label_again, in_other_labels}
 use Rattle.typing_rules.proofs.Judged.{Judged, judged_ok, judged_fault, then_judged, judged_more, then_when, then_found}
 use Rattle.typing.proofs.Types.TypesOfReferences.{scalar_is}
 use Rattle.typing_rules.proofs.ReferencesJudged.{is_no_variable, target_judged}
@@ -139,7 +139,7 @@ step_judged (Some tree) progress =
     then_reached _ (value_judged tree progress) (λ fault is. in_step is) (λ typed after is.
     judged_ok (record { after = after; typing = a_step is; reached = refl }))
 
-pub iteration_judged : (head : IterationTree) (progress : Progress)
+iteration_judged : (head : IterationTree) (progress : Progress)
     → Judged (Reaches (IterationTyping progress.known progress.constants head) progress)
     (IterationFault progress.known progress.constants head)
     (iteration head progress)
@@ -154,6 +154,18 @@ iteration_judged head progress =
     then_reached _ (step_judged head.step (with_constants two progress))
     (λ fault by. in_step_value is its more by) (λ step after by.
     judged_ok (record { after = after; typing = iterates is its more by; reached = refl }))))))
+
+-- heads of loops
+pub head_judged : (head : LoopHeadTree) (progress : Progress)
+    → Judged (Reaches (HeadTyping progress.known progress.constants head) progress)
+    (HeadFault progress.known progress.constants head)
+    (loop_head head progress)
+head_judged (WhileHead condition) progress =
+    then_reached _ (value_judged condition progress) (λ fault is. in_while_condition is) (λ tested after is.
+    judged_ok (record { after = after; typing = do_while is; reached = refl }))
+head_judged (CountHead head) progress =
+    then_reached _ (iteration_judged head progress) (λ fault is. in_iteration is) (λ iteration after is.
+    judged_ok (record { after = after; typing = iterative_do is; reached = refl }))
 
 -- labels
 pub labels_judged : (labels : List Identifier) (here : Here)

@@ -4,14 +4,14 @@ use Rattle.std.specs.Prelude.{◌≡◌, ℕ, List, [], ◌∷◌, length, Optio
 use Rattle.trees.specs.declared.declaration.ScalarType.{ScalarType}
 use Rattle.trees.specs.declared.identifier.Identifier.{Identifier}
 use Rattle.trees.specs.declared.identifier.Place.{Place}
-use Rattle.trees.specs.Trees.{ExpressionTree, ReferenceTree, ArgumentTrees, ElementTree, HeadingTree, IterationTree, StatementTree, LabelledStatement, StatementKindTree, AssignmentStatement, CallStatement, ReturnStatement, GotoStatement, IfStatement, DoStatement, WhileStatement, IterateStatement, CaseStatement, ElseTree, ElseStatement, StatementTrees, MoreStatements, DeclarationTree, DeclareTree, ProcedureTree, DeclarationTrees, MoreDeclarations, ModuleTree}
+use Rattle.trees.specs.Trees.{ExpressionTree, ReferenceTree, ArgumentTrees, ElementTree, HeadingTree, LoopHeadTree, StatementTree, LabelledStatement, StatementKindTree, AssignmentStatement, CallStatement, ReturnStatement, GotoStatement, IfStatement, DoStatement, LoopStatement, CaseStatement, ElseTree, ElseStatement, StatementTrees, MoreStatements, DeclarationTree, DeclareTree, ProcedureTree, DeclarationTrees, MoreDeclarations, ModuleTree}
 use Rattle.names.specs.declared.entity.BuiltIn.TheVariants.{Move}
 use Rattle.names.specs.declared.entity.Binding.TheVariants.{Declared}
 use Rattle.names.specs.declared.entity.Entity.TheVariants.{Label}
 use Rattle.names.specs.BuiltIns.{jump_of}
 use Rattle.names.specs.Environment.{Here, into_list}
 use Rattle.names.specs.DeclaredNames.{labels_of}
-use Rattle.typed_trees.specs.TypedTrees.{TypedExpression, TypedIteration, TypedStatement, TypedProcedure, Constants}
+use Rattle.typed_trees.specs.TypedTrees.{TypedExpression, TypedHead, TypedStatement, TypedProcedure, Constants}
 use Rattle.typing.specs.declared.fault.Cause.TheVariants.{UnknownName, ArgumentCount, CallOfTyped, CallOfNoProcedure, ReturnMismatch, ReturnOutside, MisplacedLabel, UnknownLabel}
 use Rattle.typing.specs.declared.fault.Fault.{Fault}
 use Rattle.typing.specs.Nodes.{Destination}
@@ -27,8 +27,8 @@ use Rattle.typing_rules.specs.Modules.{StatementTyping, AloneTyping, Declaration
 use Rattle.typing_rules.specs.Names.{IsUnknown, IsProcedure, IsBuiltIn, IsNoProcedure, at_name}
 use Rattle.typing_rules.specs.Procedures.{HeadingTyping, AreParameters, BodyStands}
 use Rattle.typing_rules.specs.ProcedureFaults.{HeadingFault, ParameterFault, BodyFault}
-use Rattle.typing_rules.specs.StatementFaults.{TargetsFault, IterationFault, LabelsFault}
-use Rattle.typing_rules.specs.Statements.{TargetsTyping, IterationTyping, AreNewLabels}
+use Rattle.typing_rules.specs.StatementFaults.{TargetsFault, HeadFault, LabelsFault}
+use Rattle.typing_rules.specs.Statements.{TargetsTyping, HeadTyping, AreNewLabels}
 
 mutual
   -- a statement, its labels aside
@@ -136,24 +136,15 @@ mutual
         → DeclarationsTyping (inner_block block) (entered progress) declared opened
         → ListFault (inner_block block) opened body fault
         → StatementFault block progress (DoStatement place declared body) fault
-    in_while_condition : {block : Block} {progress : Progress} {place : Place} {condition : ExpressionTree}
+    in_head : {block : Block} {progress : Progress} {place : Place} {head : LoopHeadTree}
         {body : StatementTrees} {fault : Fault}
-        → ExpressionFault progress.known progress.constants condition fault
-        → StatementFault block progress (WhileStatement place condition body) fault
-    in_while : {block : Block} {progress : Progress} {place : Place} {condition : ExpressionTree}
-        {body : StatementTrees} {tested : TypedExpression} {constants : Constants} {fault : Fault}
-        → ExpressionTyping progress.known progress.constants condition tested constants
+        → HeadFault progress.known progress.constants head fault
+        → StatementFault block progress (LoopStatement place head body) fault
+    in_loop : {block : Block} {progress : Progress} {place : Place} {head : LoopHeadTree}
+        {body : StatementTrees} {headed : TypedHead} {constants : Constants} {fault : Fault}
+        → HeadTyping progress.known progress.constants head headed constants
         → ListFault block (with_constants constants progress) body fault
-        → StatementFault block progress (WhileStatement place condition body) fault
-    in_head : {block : Block} {progress : Progress} {place : Place} {head : IterationTree}
-        {body : StatementTrees} {fault : Fault}
-        → IterationFault progress.known progress.constants head fault
-        → StatementFault block progress (IterateStatement place head body) fault
-    in_iterated : {block : Block} {progress : Progress} {place : Place} {head : IterationTree}
-        {body : StatementTrees} {iteration : TypedIteration} {constants : Constants} {fault : Fault}
-        → IterationTyping progress.known progress.constants head iteration constants
-        → ListFault block (with_constants constants progress) body fault
-        → StatementFault block progress (IterateStatement place head body) fault
+        → StatementFault block progress (LoopStatement place head body) fault
     in_choice : {block : Block} {progress : Progress} {place : Place} {choice : ExpressionTree}
         {body : StatementTrees} {fault : Fault}
         → ExpressionFault progress.known progress.constants choice fault

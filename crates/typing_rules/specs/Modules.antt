@@ -7,14 +7,14 @@ use Rattle.trees.specs.declared.declaration.ScalarType.{ScalarType}
 use Rattle.trees.specs.declared.declaration.ScalarType.TheVariants.{Address}
 use Rattle.trees.specs.declared.identifier.Identifier.{Identifier}
 use Rattle.trees.specs.declared.identifier.Place.{Place}
-use Rattle.trees.specs.Trees.{ExpressionTree, ReferenceTree, ArgumentTrees, ElementTree, HeadingTree, IterationTree, StatementTree, LabelledStatement, StatementKindTree, NullStatement, AssignmentStatement, CallStatement, ReturnStatement, HaltStatement, GotoStatement, IfStatement, DoStatement, WhileStatement, IterateStatement, CaseStatement, ElseTree, NoElse, ElseStatement, StatementTrees, NoStatements, MoreStatements, DeclarationTree, DeclareTree, ProcedureTree, DeclarationTrees, NoDeclarations, MoreDeclarations, ModuleTree}
+use Rattle.trees.specs.Trees.{ExpressionTree, ReferenceTree, ArgumentTrees, ElementTree, HeadingTree, LoopHeadTree, StatementTree, LabelledStatement, StatementKindTree, NullStatement, AssignmentStatement, CallStatement, ReturnStatement, HaltStatement, GotoStatement, IfStatement, DoStatement, LoopStatement, CaseStatement, ElseTree, NoElse, ElseStatement, StatementTrees, NoStatements, MoreStatements, DeclarationTree, DeclareTree, ProcedureTree, DeclarationTrees, NoDeclarations, MoreDeclarations, ModuleTree}
 use Rattle.names.specs.declared.entity.BuiltIn.TheVariants.{Move}
 use Rattle.names.specs.declared.entity.Binding.TheVariants.{Declared}
 use Rattle.names.specs.declared.entity.Entity.TheVariants.{Label}
 use Rattle.names.specs.BuiltIns.{jump_of}
 use Rattle.names.specs.Environment.{Here, into_list, out_of_list}
 use Rattle.names.specs.DeclaredNames.{labels_of}
-use Rattle.typed_trees.specs.TypedTrees.{TypedExpression, TypedArguments, NoArguments as NoTypedArguments, MoreArguments, TypedIteration, TypedStatement, NullStatement as TypedNull, CallStatement as TypedCall, MoveStatement, ReturnStatement as TypedReturn, HaltStatement as TypedHalt, GotoStatement as TypedGoto, IfStatement as TypedIf, DoStatement as TypedDo, WhileStatement as TypedWhile, IterateStatement as TypedIterate, CaseStatement as TypedCase, TypedElse, NoElse as NoTypedElse, ElseStatement as TypedElseStatement, TypedStatements, NoStatements as NoTyped, MoreStatements as MoreTyped, TypedList, ListOf, TypedProcedure, TypedModule, Constants}
+use Rattle.typed_trees.specs.TypedTrees.{TypedExpression, TypedArguments, NoArguments as NoTypedArguments, MoreArguments, TypedHead, TypedStatement, NullStatement as TypedNull, CallStatement as TypedCall, MoveStatement, ReturnStatement as TypedReturn, HaltStatement as TypedHalt, GotoStatement as TypedGoto, IfStatement as TypedIf, DoStatement as TypedDo, LoopStatement as TypedLoop, CaseStatement as TypedCase, TypedElse, NoElse as NoTypedElse, ElseStatement as TypedElseStatement, TypedStatements, NoStatements as NoTyped, MoreStatements as MoreTyped, TypedList, ListOf, TypedProcedure, TypedModule, Constants}
 use Rattle.typing.specs.Nodes.{as_type, arguments_as, Destination}
 use Rattle.typing.specs.References.{number_of_arguments}
 use Rattle.typing.specs.Blocks.{OfProcedure, Block, Progress}
@@ -25,7 +25,7 @@ use Rattle.typing_rules.specs.Expressions.{ExpressionTyping, ValuesTyping}
 use Rattle.typing_rules.specs.Items.{ElementsTyping}
 use Rattle.typing_rules.specs.Names.{IsProcedure, IsBuiltIn}
 use Rattle.typing_rules.specs.Procedures.{HeadingTyping, AreParameters, BodyStands}
-use Rattle.typing_rules.specs.Statements.{TargetsTyping, IterationTyping, AreNewLabels}
+use Rattle.typing_rules.specs.Statements.{TargetsTyping, HeadTyping, AreNewLabels}
 
 mutual
   -- a statement, its labels aside
@@ -89,16 +89,12 @@ mutual
         → DeclarationsTyping (inner_block block) (entered progress) declared opened
         → ListTyping (inner_block block) opened body typed after
         → StatementTyping block progress (DoStatement place declared body) (TypedDo typed) (left after)
-    do_while : {block : Block} {progress after : Progress} {place : Place} {condition : ExpressionTree}
-        {body : StatementTrees} {tested : TypedExpression} {constants : Constants} {typed : TypedList}
-        → ExpressionTyping progress.known progress.constants condition tested constants
+    -- DO WHILE or an iterative DO: its head, and then its statements
+    loop : {block : Block} {progress after : Progress} {place : Place} {head : LoopHeadTree}
+        {body : StatementTrees} {headed : TypedHead} {constants : Constants} {typed : TypedList}
+        → HeadTyping progress.known progress.constants head headed constants
         → ListTyping block (with_constants constants progress) body typed after
-        → StatementTyping block progress (WhileStatement place condition body) (TypedWhile tested typed) after
-    iterative_do : {block : Block} {progress after : Progress} {place : Place} {head : IterationTree}
-        {body : StatementTrees} {iteration : TypedIteration} {constants : Constants} {typed : TypedList}
-        → IterationTyping progress.known progress.constants head iteration constants
-        → ListTyping block (with_constants constants progress) body typed after
-        → StatementTyping block progress (IterateStatement place head body) (TypedIterate iteration typed) after
+        → StatementTyping block progress (LoopStatement place head body) (TypedLoop headed typed) after
     do_case : {block : Block} {progress after : Progress} {place : Place} {choice : ExpressionTree}
         {body : StatementTrees} {chosen : TypedExpression} {constants : Constants} {typed : TypedStatements}
         → ExpressionTyping progress.known progress.constants choice chosen constants

@@ -2,7 +2,7 @@
 use Rattle.std.specs.Prelude.{◌≡◌, ℕ, false, true, List, ◌∷◌, Option, Some}
 use Rattle.trees.specs.declared.declaration.ScalarType.{ScalarType}
 use Rattle.trees.specs.declared.identifier.Identifier.{Identifier}
-use Rattle.trees.specs.Trees.{ExpressionTree, ReferenceTree, IterationTree}
+use Rattle.trees.specs.Trees.{ExpressionTree, ReferenceTree, IterationTree, LoopHeadTree, WhileHead, CountHead}
 use Rattle.names.specs.Environment.{Here, with_label, is_label_again}
 use Rattle.typing.specs.declared.fault.Cause.TheVariants.{UnknownName, DeclaredTwice, NoVariable, NoCounter, ConstantWritten}
 use Rattle.typing.specs.declared.fault.Fault.{Fault}
@@ -82,6 +82,15 @@ pub data IterationFault (known : Known) : Constants → IterationTree → Fault 
       → ExpressionTyping known one head.last last two
       → StepFault known two head.step fault
       → IterationFault known before head fault
+
+-- the head of a loop
+pub data HeadFault (known : Known) : Constants → LoopHeadTree → Fault → Type 0 where
+  in_while_condition : {before : Constants} {condition : ExpressionTree} {fault : Fault}
+      → ExpressionFault known before condition fault
+      → HeadFault known before (WhileHead condition) fault
+  in_iteration : {before : Constants} {head : IterationTree} {fault : Fault}
+      → IterationFault known before head fault
+      → HeadFault known before (CountHead head) fault
 
 -- C12: a label whose name its body has already, as a label or as a declaration
 pub data LabelsFault : Here → List Identifier → Fault → Type 0 where

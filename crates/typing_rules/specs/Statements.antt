@@ -2,9 +2,9 @@
 use Rattle.std.specs.Prelude.{◌≡◌, ℕ, false, true, List, [], ◌∷◌, Option, Some, None}
 use Rattle.trees.specs.declared.declaration.ScalarType.{ScalarType}
 use Rattle.trees.specs.declared.identifier.Identifier.{Identifier}
-use Rattle.trees.specs.Trees.{ExpressionTree, ReferenceTree, IterationTree}
+use Rattle.trees.specs.Trees.{ExpressionTree, ReferenceTree, IterationTree, LoopHeadTree, WhileHead, CountHead}
 use Rattle.names.specs.Environment.{Here, with_label, is_label_again}
-use Rattle.typed_trees.specs.TypedTrees.{TypedExpression, TypedIteration, ScalarObject, TypedObject, Constants}
+use Rattle.typed_trees.specs.TypedTrees.{TypedExpression, TypedIteration, TypedHead, WhileHead as TypedWhile, CountHead as TypedCount, ScalarObject, TypedObject, Constants}
 use Rattle.typing.specs.Items.{is_not_based}
 use Rattle.typing.specs.Nodes.{Destination}
 use Rattle.typing.specs.References.{Known, is_constant}
@@ -46,6 +46,15 @@ pub data IterationTyping (known : Known) : Constants → IterationTree → Typed
       → StepTyping known two head.step step after
       → IterationTyping known before head
       (record { variable = number; scalar = scalar; first = first; last = last; step = step }) after
+
+-- the head of a loop
+pub data HeadTyping (known : Known) : Constants → LoopHeadTree → TypedHead → Constants → Type 0 where
+  do_while : {before after : Constants} {condition : ExpressionTree} {tested : TypedExpression}
+      → ExpressionTyping known before condition tested after
+      → HeadTyping known before (WhileHead condition) (TypedWhile tested) after
+  iterative_do : {before after : Constants} {head : IterationTree} {iteration : TypedIteration}
+      → IterationTyping known before head iteration after
+      → HeadTyping known before (CountHead head) (TypedCount iteration) after
 
 -- the labels before a statement, which differ from each other, from all earlier labels of their body, and from what it
 -- declares

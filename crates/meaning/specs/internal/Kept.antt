@@ -1,12 +1,12 @@
 -- What holds along each run: of a state and one that comes after it.
-use Rattle.std.specs.Prelude.{◌≡◌, ℕ, suc, ◌+◌, ◌<◌, ◌≤◌, Bool, true, false, List, length, map}
+use Rattle.std.specs.Prelude.{◌≡◌, ℕ, suc, ◌+◌, ◌<◌, ◌≤◌, true, false, List, length, map}
 use Rattle.mem80.specs.Memory.{byte_at}
 use Rattle.ports.specs.Events.{IsBeginning}
 use Rattle.layout.specs.Joined.{InProgram}
 use Rattle.typed_trees.specs.TypedTrees.{TypedStatements, TypedList}
 use Rattle.meaning.specs.Outcomes.{Program, State, Stop, Ended, More, Outside, Outcome, Gave, Stopped, Flow, Onward, Returned, Jumped}
 use Rattle.meaning.specs.Access.{Surroundings, is_constant, is_declared}
-use Rattle.meaning.specs.Meaning.{Later, Turn, WhileTurn, IterateTurn}
+use Rattle.meaning.specs.Meaning.{Later, Turn, LoopTurn}
 
 -- The budget does not grow, events are only added, the memory keeps its size, and only bytes that may be written
 -- change: no byte of a constant does, and none that is not declared.
@@ -49,8 +49,7 @@ Keeps program extra s (Stopped why t) = Follows program s t × IsSpent why t
 
 -- the body that a loop repeats
 abbrev pub body_of_turn : Turn → TypedList
-body_of_turn (WhileTurn condition body) = body
-body_of_turn (IterateTurn head body) = body
+body_of_turn (LoopTurn head body) = body
 
 -- a meaning given from outside keeps this if the budget is below a number; a turn and the rest after a jump come
 -- after one was taken

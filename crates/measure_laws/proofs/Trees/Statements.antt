@@ -1,5 +1,6 @@
 -- The weight of a body of tree code is that of its typed tree.
-use Rattle.measure_laws.proofs.Prelude.{◌≡◌, ℕ, zero, suc, ◌+◌, ◌≤◌, List, ◌∷◌, drop, length, take, Option, Some, slice_get, drop-cons, refl, ap, ◌∙◌, arith, sum_by, option_map_or, sum_by-cons, get_or_from_slice_get, slice_get_within, type_of, TypedArguments, TypedElse, TypedExpression, TypedIteration, TypedList, TypedStatement, TypedStatements, TypedTarget, Storage, Expression, ExpressionNumber, Range, Iteration, StatementNumber, AreArguments, AreMoreStatements, AreNoStatements, AreStatements, AreTargets, IsAssignment, IsCall, IsCase, IsDo, IsElse, IsExpressionIn, IsIf, IsIterate, IsIteration, IsList, IsListOf, IsMove, IsNoElse, IsNode, IsNoValue, IsOptional, IsReturn, IsSomeElse, IsSomeValue, IsStatement, IsStatementForm, IsStatementNode, IsWhile, MoreTargets, NoTargets, Nodes, no_traits, traits_at, beside_at, weight_of_body, weight_of_range, weight_within}
+use Rattle.measure_laws.proofs.Prelude.{◌≡◌, ℕ, zero, suc, ◌+◌, ◌≤◌, List, ◌∷◌, drop, length, take, Option, Some, slice_get, drop-cons, refl, ap, ◌∙◌, arith, sum_by, option_map_or, sum_by-cons, get_or_from_slice_get, slice_get_within, type_of, TypedArguments, TypedElse, TypedExpression, TypedIteration, TypedList, TypedStatement, TypedStatements, TypedTarget, Storage, Expression, ExpressionNumber, Range, Iteration, StatementNumber, AreArguments, AreMoreStatements, AreNoStatements, AreStatements, AreTargets, IsAssignment, IsCall, IsCase, IsDo, IsElse, IsExpressionIn, IsIf, IsIteration, IsList, IsListOf, IsMove, IsNoElse, IsNode, IsNoValue, IsOptional, IsReturn, IsSomeElse, IsSomeValue, IsStatement, IsStatementForm, IsStatementNode, MoreTargets, NoTargets, Nodes, no_traits, traits_at, beside_at, weight_of_body, weight_of_range, weight_within}
+use Rattle.treecode.specs.internal.Lowered.{IsIterate, IsWhile}
 use Rattle.typed_trees.specs.Weight as typed
 use Rattle.treecode.specs.declared.statement.Statement.{Statement}
 use Rattle.measure_laws.proofs.Footprints.Weights.{arguments_weigh, target_weighs, weighs_at}

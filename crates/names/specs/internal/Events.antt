@@ -2,11 +2,11 @@
 use Rattle.std.specs.Prelude.{ℕ, Bool, Option, Some, List, [], ◌∷◌, ◌++◌, map}
 use Rattle.std.specs.List.{flat_map}
 use Rattle.trees.specs.declared.identifier.Identifier.{Identifier}
-use Rattle.trees.specs.Trees.{ElementTree, LiterallyElement, ItemElement, StatementTree, LabelledStatement, StatementKindTree, NullStatement, AssignmentStatement, CallStatement, ReturnStatement, HaltStatement, GotoStatement, IfStatement, DoStatement, WhileStatement, IterateStatement, CaseStatement, ElseTree, NoElse, ElseStatement, StatementTrees, NoStatements, MoreStatements, DeclarationTree, DeclareTree, ProcedureTree, DeclarationTrees, NoDeclarations, MoreDeclarations, ModuleTree}
+use Rattle.trees.specs.Trees.{ElementTree, LiterallyElement, ItemElement, StatementTree, LabelledStatement, StatementKindTree, NullStatement, AssignmentStatement, CallStatement, ReturnStatement, HaltStatement, GotoStatement, IfStatement, DoStatement, LoopStatement, CaseStatement, ElseTree, NoElse, ElseStatement, StatementTrees, NoStatements, MoreStatements, DeclarationTree, DeclareTree, ProcedureTree, DeclarationTrees, NoDeclarations, MoreDeclarations, ModuleTree}
 use Rattle.names.specs.declared.entity.Binding.{Binding}
 use Rattle.names.specs.Environment.{Here, at_the_start, into_block, out_of_block, into_body, out_of_body, into_list, out_of_list, with_object, with_procedure, with_definition, with_parameter, with_label, is_declared_again, is_parameter_again, is_label_again}
 use Rattle.names.specs.BuiltIns.{binding_of, jump_of}
-use Rattle.names.specs.internal.Uses.{names_in_expression, names_in_reference, names_in_arguments, names_in_optional, names_in_iteration, names_in_item}
+use Rattle.names.specs.internal.Uses.{names_in_expression, names_in_reference, names_in_arguments, names_in_optional, names_in_head, names_in_item}
 use Rattle.names.specs.DeclaredNames.{declared_by, labels_of}
 
 -- one thing that a text does with a name
@@ -120,10 +120,8 @@ abbrev mutual
       in_turn (uses_of (names_in_expression condition)) (in_turn (see_alone body) (see_else otherwise))
   see_kind (DoStatement place declared body) =
       in_block (in_turn (see_declarations declared) (in_list body (see_statements body)))
-  see_kind (WhileStatement place condition body) =
-      in_turn (uses_of (names_in_expression condition)) (in_list body (see_statements body))
-  see_kind (IterateStatement place iteration body) =
-      in_turn (uses_of (names_in_iteration iteration)) (in_list body (see_statements body))
+  see_kind (LoopStatement place head body) =
+      in_turn (uses_of (names_in_head head)) (in_list body (see_statements body))
   see_kind (CaseStatement place choice body) = in_turn (uses_of (names_in_expression choice)) (see_cases body)
 
   pub see_else : ElseTree → Here → Seen

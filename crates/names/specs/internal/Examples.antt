@@ -4,7 +4,7 @@ use Rattle.trees.specs.declared.declaration.ScalarType.TheVariants.{Byte}
 use Rattle.trees.specs.declared.functions.UnaryFunction.TheVariants.{Low}
 use Rattle.trees.specs.declared.identifier.Identifier.{Identifier}
 use Rattle.trees.specs.declared.identifier.Place.{Place}
-use Rattle.trees.specs.Trees.{ReferenceLeaf, ReferenceTree, ReferenceTo, NoMember, NoArguments, ElementTree, ItemElement, ScalarItem, SingleSubject, StatementTree, LabelledStatement, StatementKindTree, NullStatement, AssignmentStatement, CallStatement, GotoStatement, DoStatement, WhileStatement, StatementTrees, NoStatements, MoreStatements, DeclarationTree, DeclareTree, ProcedureTree, DeclarationTrees, NoDeclarations, MoreDeclarations, ModuleTree}
+use Rattle.trees.specs.Trees.{ReferenceLeaf, ReferenceTree, ReferenceTo, NoMember, NoArguments, ElementTree, ItemElement, ScalarItem, SingleSubject, StatementTree, LabelledStatement, StatementKindTree, NullStatement, AssignmentStatement, CallStatement, GotoStatement, DoStatement, LoopStatement, WhileHead, StatementTrees, NoStatements, MoreStatements, DeclarationTree, DeclareTree, ProcedureTree, DeclarationTrees, NoDeclarations, MoreDeclarations, ModuleTree}
 use Rattle.names.specs.declared.entity.Binding.TheVariants.{Declared, BuiltInName, UnknownLabel}
 use Rattle.names.specs.declared.entity.BuiltIn.TheVariants.{Unary}
 use Rattle.names.specs.declared.entity.Entity.TheVariants.{Object, Procedure, Label}
@@ -40,6 +40,10 @@ plain kind = LabelledStatement [] kind
 
 abbrev labelled : ℕ → List ℕ → StatementKindTree → StatementTree
 labelled line label kind = LabelledStatement (on line label ∷ []) kind
+
+-- DO WHILE A; .. END;
+abbrev while_a : ℕ → List StatementTree → StatementTree
+while_a line body = plain (LoopStatement at (WhileHead (ReferenceLeaf (alone line (codes "A")))) (lines body))
 
 -- DECLARE name BYTE, or name BASED base BYTE
 abbrev variable : ℕ → List ℕ → Option Identifier → ElementTree
@@ -109,7 +113,7 @@ abbrev outside_list : ModuleTree
 outside_list =
     of_parts (declare 1 (codes "A") ∷ [])
     (plain (GotoStatement at (on 1 (codes "L")))
-    ∷ plain (WhileStatement at (ReferenceLeaf (alone 2 (codes "A"))) (lines (labelled 2 (codes "L") (NullStatement at) ∷ [])))
+    ∷ while_a 2 (labelled 2 (codes "L") (NullStatement at) ∷ [])
     ∷ [])
 
 outside_list-is : IsBinding outside_list (UnknownLabel ∷ Declared (Object 0) ∷ [])
@@ -121,7 +125,7 @@ abbrev within_list : ModuleTree
 within_list =
     of_parts (declare 1 (codes "A") ∷ [])
     (plain (GotoStatement at (on 1 (codes "L")))
-    ∷ plain (WhileStatement at (ReferenceLeaf (alone 2 (codes "A"))) (lines (plain (GotoStatement at (on 2 (codes "L"))) ∷ [])))
+    ∷ while_a 2 (plain (GotoStatement at (on 2 (codes "L"))) ∷ [])
     ∷ labelled 3 (codes "L") (NullStatement at)
     ∷ [])
 
@@ -133,7 +137,7 @@ within_list-is = record { faultless = refl; bound = refl }
 abbrev two_labels : ModuleTree
 two_labels =
     of_parts (declare 1 (codes "A") ∷ [])
-    (plain (WhileStatement at (ReferenceLeaf (alone 1 (codes "A"))) (lines (labelled 2 (codes "L") (NullStatement at) ∷ [])))
+    (while_a 1 (labelled 2 (codes "L") (NullStatement at) ∷ [])
     ∷ labelled 3 (codes "L") (NullStatement at)
     ∷ [])
 

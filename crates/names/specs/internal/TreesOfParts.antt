@@ -2,14 +2,13 @@
 use Rattle.trees.specs.declared.identifier.Place.{Place}
 use Rattle.trees.specs.declared.statement.Block.{Block}
 use Rattle.trees.specs.declared.statement.DoCase.{DoCase, out-DoCase}
-use Rattle.trees.specs.declared.statement.DoWhile.{DoWhile, out-DoWhile}
 use Rattle.trees.specs.declared.statement.IfThen.{IfThen, out-IfThen}
-use Rattle.trees.specs.declared.statement.IterativeDo.{IterativeDo, out-IterativeDo}
+use Rattle.trees.specs.declared.statement.Loop.{Loop, out-Loop}
 use Rattle.trees.specs.declared.statement.Procedure.{Procedure, out-Procedure}
-use Rattle.trees.specs.Trees.{StatementKindTree, IfStatement, DoStatement, WhileStatement, IterateStatement, CaseStatement, DeclarationTree}
+use Rattle.trees.specs.Trees.{StatementKindTree, IfStatement, DoStatement, LoopStatement, CaseStatement, DeclarationTree}
 use Rattle.names.specs.Environment.{Here}
 use Rattle.names.specs.internal.Events.{Seen, in_turn, see_all, see_block, declares_parameter}
-use Rattle.trees.specs.internal.Views.{expression_tree, iteration_tree, statement_tree, statement_trees, else_tree, block_declarations, block_statements, procedure_tree}
+use Rattle.trees.specs.internal.Views.{expression_tree, head_tree, statement_tree, statement_trees, else_tree, block_declarations, block_statements, procedure_tree}
 
 abbrev pub if_tree : IfThen → StatementKindTree
 if_tree branch =
@@ -19,15 +18,10 @@ if_tree branch =
 abbrev pub do_tree : Place → Block → StatementKindTree
 do_tree place block = DoStatement place (block_declarations block) (block_statements block)
 
-abbrev pub while_tree : DoWhile → StatementKindTree
-while_tree turns =
-    WhileStatement (out-DoWhile turns).place (expression_tree (out-DoWhile turns).condition)
-    (statement_trees (out-DoWhile turns).body.items)
-
-abbrev pub iterate_tree : IterativeDo → StatementKindTree
-iterate_tree turns =
-    IterateStatement (out-IterativeDo turns).place (iteration_tree (out-IterativeDo turns).iteration)
-    (statement_trees (out-IterativeDo turns).body.items)
+abbrev pub loop_tree : Loop → StatementKindTree
+loop_tree turns =
+    LoopStatement (out-Loop turns).place (head_tree (out-Loop turns).head)
+    (statement_trees (out-Loop turns).body.items)
 
 abbrev pub case_tree : DoCase → StatementKindTree
 case_tree choice =

@@ -3,7 +3,7 @@
 use Rattle.std.specs.Prelude.{List, [], ◌∷◌, ◌++◌, Option, Some, None}
 use Rattle.std.specs.List.{flat_map}
 use Rattle.trees.specs.declared.identifier.Identifier.{Identifier}
-use Rattle.trees.specs.Trees.{ExpressionTree, ConstantLeaf, ReferenceLeaf, LocationLeaf, ListLeaf, ParenthesizedNode, AssignmentNode, UnaryNode, BinaryNode, ReferenceTree, ReferenceTo, MemberTree, NoMember, MemberOf, ArgumentTrees, NoArguments, MoreArguments, OriginTree, ConstantOrigin, LocationOrigin, RestrictedTree, SubjectTree, SingleSubject, GroupSubject, AtTree, ValueListTree, ItemTree, IterationTree}
+use Rattle.trees.specs.Trees.{ExpressionTree, ConstantLeaf, ReferenceLeaf, LocationLeaf, ListLeaf, ParenthesizedNode, AssignmentNode, UnaryNode, BinaryNode, ReferenceTree, ReferenceTo, MemberTree, NoMember, MemberOf, ArgumentTrees, NoArguments, MoreArguments, OriginTree, ConstantOrigin, LocationOrigin, RestrictedTree, SubjectTree, SingleSubject, GroupSubject, AtTree, ValueListTree, ItemTree, IterationTree, LoopHeadTree, WhileHead, CountHead}
 
 abbrev mutual
   pub names_in_expression : ExpressionTree → List Identifier
@@ -41,6 +41,11 @@ names_in_bounds iteration =
 
 abbrev pub names_in_iteration : IterationTree → List Identifier
 names_in_iteration iteration = iteration.variable ∷ names_in_bounds iteration
+
+-- the head of a loop
+abbrev pub names_in_head : LoopHeadTree → List Identifier
+names_in_head (WhileHead condition) = names_in_expression condition
+names_in_head (CountHead iteration) = names_in_iteration iteration
 
 -- a constant, or the name of the located object
 abbrev pub names_in_origin : OriginTree → List Identifier

@@ -1,7 +1,7 @@
 -- How many procedures and how many statements a module of the text has, as its typed module numbers them: a label counts as a
 -- statement.
 use Rattle.std.specs.Prelude.{◌≡◌, ℕ, ◌+◌, List, ◌++◌, length, map, sum_by}
-use Rattle.trees.specs.Trees.{StatementTree, LabelledStatement, StatementKindTree, NullStatement, AssignmentStatement, CallStatement, ReturnStatement, HaltStatement, GotoStatement, IfStatement, DoStatement, WhileStatement, IterateStatement, CaseStatement, ElseTree, NoElse, ElseStatement, StatementTrees, NoStatements, MoreStatements, ModuleTree}
+use Rattle.trees.specs.Trees.{StatementTree, LabelledStatement, StatementKindTree, NullStatement, AssignmentStatement, CallStatement, ReturnStatement, HaltStatement, GotoStatement, IfStatement, DoStatement, LoopStatement, CaseStatement, ElseTree, NoElse, ElseStatement, StatementTrees, NoStatements, MoreStatements, ModuleTree}
 use Rattle.typing.specs.internal.Untyped.{bodies_in, bodies_in_statements}
 use Rattle.sources.specs.declared.lines.LineWalk.{LineWalk}
 use Rattle.sources.specs.declared.lines.ProcedureLines.{ProcedureLines}
@@ -23,8 +23,7 @@ abbrev mutual
   count_of_parts (GotoStatement place label) = 0
   count_of_parts (IfStatement place condition body otherwise) = count_of_statement body + count_of_else otherwise
   count_of_parts (DoStatement place declared body) = count_of_statements body
-  count_of_parts (WhileStatement place condition body) = count_of_statements body
-  count_of_parts (IterateStatement place head body) = count_of_statements body
+  count_of_parts (LoopStatement place head body) = count_of_statements body
   count_of_parts (CaseStatement place choice body) = count_of_statements body
 
   pub count_of_else : ElseTree → ℕ

@@ -1,13 +1,12 @@
 -- The parts of a program as stack code.
-use Rattle.std.specs.Prelude.{ℕ, suc, ◌+◌, ◌-◌, ◌%◌, Bool, true, false, List, [], ◌∷◌, ◌++◌, length, flat_map, replicate, Option, Some, None, if◌then◌else◌}
+use Rattle.std.specs.Prelude.{ℕ, suc, ◌+◌, ◌-◌, ◌%◌, List, [], ◌∷◌, ◌++◌, length, flat_map, replicate, Option, Some, None}
 use Rattle.std.specs.List.{enumerate_from}
-use Rattle.std.specs.Option.{option_map_or}
 use Rattle.mem80.specs.declared.memory.TheConstants.{MEMORY_SIZE}
 use Rattle.trees.specs.declared.declaration.ScalarType.{ScalarType}
 use Rattle.trees.specs.declared.declaration.ScalarType.TheVariants.{Address}
 use Rattle.trees.specs.declared.expression.BinaryOperator.{BinaryOperator}
 use Rattle.trees.specs.declared.expression.BinaryOperator.TheVariants.{GreaterOrEqual}
-use Rattle.typed_trees.specs.TypedTrees.{TypedExpression, NumberNode, ValueNode, LocationNode, ListNode, ConversionNode, AssignmentNode, UnaryNode, BinaryNode, CallNode, FunctionNode, ShiftNode, InputNode, TypedReference, PartOf, Subscript, NoSubscript, At, TypedTarget, StoredIn, SentTo, TypedArguments, NoArguments, MoreArguments, TypedIteration, TypedStatement, LabelStatement, NullStatement, AssignmentStatement, CallStatement, MoveStatement, ReturnStatement, HaltStatement, GotoStatement, IfStatement, DoStatement, WhileStatement, IterateStatement, CaseStatement, TypedElse, NoElse, ElseStatement, TypedStatements, NoStatements, MoreStatements, TypedList, ListOf, Home, BasedOn, InFrame, TypedProcedure, TypedModule}
+use Rattle.typed_trees.specs.TypedTrees.{TypedExpression, NumberNode, ValueNode, LocationNode, ListNode, ConversionNode, AssignmentNode, UnaryNode, BinaryNode, CallNode, FunctionNode, ShiftNode, InputNode, TypedReference, PartOf, Subscript, NoSubscript, At, TypedTarget, StoredIn, SentTo, TypedArguments, NoArguments, MoreArguments, TypedIteration, TypedHead, WhileHead, CountHead, TypedStatement, LabelStatement, NullStatement, AssignmentStatement, CallStatement, MoveStatement, ReturnStatement, HaltStatement, GotoStatement, IfStatement, DoStatement, LoopStatement, CaseStatement, TypedElse, NoElse, ElseStatement, TypedStatements, NoStatements, MoreStatements, TypedList, ListOf, Home, BasedOn, InFrame, TypedProcedure, TypedModule}
 use Rattle.layout.specs.Joined.{InProgram}
 use Rattle.layout.specs.Placement.{Placement}
 use Rattle.meaning.specs.Access.{Surroundings, address_of, home_of}
@@ -180,17 +179,20 @@ abbrev pub value_or : Site → (number : ℕ) → Option TypedExpression → Lis
 value_or site number None = Push number ∷ []
 value_or site number (Some expression) = expression_code site expression
 
--- The parts of an iterative DO: its variable gets its first value; the step changes the variable, and ends the
--- loop if the sum is too great; and the variable is compared with the last value.
-abbrev pub first_code : Site → TypedIteration → List Instruction
-first_code site head =
+-- before the first turn of a loop the variable of an iterative DO gets its first value
+abbrev pub first_code : Site → TypedHead → List Instruction
+first_code site (WhileHead condition) = []
+first_code site (CountHead head) =
     expression_code site head.first ++ (variable_code site (ToWrite head.scalar) head.variable ∷ Drop ∷ [])
 
-abbrev pub last_code : Site → TypedIteration → List Instruction
-last_code site head =
+-- the test before each turn: the variable of an iterative DO is compared with the last value
+abbrev pub test_code : Site → TypedHead → List Instruction
+test_code site (WhileHead condition) = expression_code site condition
+test_code site (CountHead head) =
     expression_code site head.last
     ++ (variable_code site (ToRead head.scalar) head.variable ∷ Binary Address GreaterOrEqual ∷ [])
 
+-- the step of an iterative DO changes the variable, and ends the loop if the sum is too great
 abbrev pub step_code : Site → TypedIteration → List Instruction
 step_code site head =
     value_or site 1 head.step
@@ -198,12 +200,17 @@ step_code site head =
     ∷ Step head.scalar
     ∷ variable_code site (ToWrite head.scalar) head.variable
     ∷ Drop
-    ∷ JumpUnless (length (last_code site head) + 1)
+    ∷ JumpUnless (length (test_code site (CountHead head)) + 1)
     ∷ [])
 
--- a loop whose test stands after its body
-abbrev pub loop_code : (body test : List Instruction) → List Instruction
-loop_code body test = body ++ (test ++ (LoopBack (length body + length test) ∷ []))
+-- a turn: the body, and the step of an iterative DO
+abbrev pub turn_code : Site → TypedHead → (body : List Instruction) → List Instruction
+turn_code site (WhileHead condition) body = body
+turn_code site (CountHead head) body = body ++ step_code site head
+
+-- turns of a loop, whose test stands after them
+abbrev pub loop_code : (turn test : List Instruction) → List Instruction
+loop_code turn test = turn ++ (test ++ (LoopBack (length turn + length test) ∷ []))
 
 abbrev pub count_of_statements : TypedStatements → ℕ
 count_of_statements NoStatements = 0
@@ -234,12 +241,10 @@ abbrev mutual
       expression_code site condition
       ++ choice_code (statement_code site body) (else_code site otherwise)
   statement_code site (DoStatement body) = list_code site body
-  statement_code site (WhileStatement condition body) =
-      Jump (length (list_code site body)) ∷ loop_code (list_code site body) (expression_code site condition)
-  statement_code site (IterateStatement head body) =
+  statement_code site (LoopStatement head body) =
       first_code site head
-      ++ (Jump (length (list_code site body) + length (step_code site head))
-      ∷ loop_code (list_code site body ++ step_code site head) (last_code site head))
+      ++ (Jump (length (turn_code site head (list_code site body)))
+      ∷ loop_code (turn_code site head (list_code site body)) (test_code site head))
   statement_code site (CaseStatement choice statements) =
       expression_code site choice
       ++ (Case (count_of_statements statements)

@@ -1,8 +1,8 @@
 -- How many statements typed trees have, as marks number them: a statement comes after its parts, and a label is a statement.
 -- And what marks have such numbers.
-use Rattle.std.specs.Prelude.{◌≡◌, ℕ, ◌+◌, ◌<◌, ◌≤◌, List, [], ◌∷◌, length, sum_by, IsSomeAnd, slice_get}
+use Rattle.std.specs.Prelude.{◌≡◌, ℕ, ◌+◌, ◌<◌, ◌≤◌, List, [], ◌∷◌, length, IsSomeAnd, slice_get}
 use Rattle.std.specs.List.{AllByRecursion}
-use Rattle.typed_trees.specs.TypedTrees.{TypedStatement, LabelStatement, NullStatement, AssignmentStatement, CallStatement, MoveStatement, ReturnStatement, HaltStatement, GotoStatement, IfStatement, DoStatement, WhileStatement, IterateStatement, CaseStatement, TypedElse, NoElse, ElseStatement, TypedStatements, NoStatements, MoreStatements, TypedList, ListOf, TypedProcedure, TypedModule}
+use Rattle.typed_trees.specs.TypedTrees.{TypedStatement, LabelStatement, NullStatement, AssignmentStatement, CallStatement, MoveStatement, ReturnStatement, HaltStatement, GotoStatement, IfStatement, DoStatement, LoopStatement, CaseStatement, TypedElse, NoElse, ElseStatement, TypedStatements, NoStatements, MoreStatements, TypedList, ListOf, TypedProcedure, TypedModule}
 use Rattle.stack_compiler.specs.declared.marking.Marks.{Marks}
 use Rattle.stack_compiler.specs.declared.marking.PartMark.{PartMark}
 use Rattle.stack_compiler.specs.declared.marking.ProgramMarks.{ProgramMarks}
@@ -23,8 +23,7 @@ abbrev mutual
   numbered_parts (GotoStatement label) = 0
   numbered_parts (IfStatement condition body otherwise) = (numbered_parts body + 1) + numbered_else otherwise
   numbered_parts (DoStatement body) = numbered_list body
-  numbered_parts (WhileStatement condition body) = numbered_list body
-  numbered_parts (IterateStatement head body) = numbered_list body
+  numbered_parts (LoopStatement head body) = numbered_list body
   numbered_parts (CaseStatement choice body) = numbered_statements body
 
   pub numbered_else : TypedElse → ℕ

@@ -6,8 +6,8 @@ use Rattle.layout.specs.Joined.{InProgram}
 use Rattle.meaning.specs.declared.reason.Reason.TheVariants.{Divide, Byte as UndeclaredByte, Constant, Stack}
 use Rattle.meaning.specs.Outcomes.{State, Stop, Ended, More, Outside, Outcome, Gave, Stopped}
 use Rattle.meaning.specs.Access.{Surroundings}
-use Rattle.meaning.specs.Meaning.{Later, Turn, WhileTurn, IterateTurn, callee_in}
-use Rattle.stack_need.specs.Calls.{calls_in, calls_in_iteration, calls_in_list, calls_in_statements}
+use Rattle.meaning.specs.Meaning.{Later, Turn, LoopTurn, callee_in}
+use Rattle.stack_need.specs.Calls.{calls_in_head, calls_in_list, calls_in_statements}
 use Rattle.call_graphs.specs.Chains.{IsChain, charges_of_chain}
 use Rattle.stack_need.specs.CallGraph.{call_graph, number_of_body}
 
@@ -41,9 +41,8 @@ HoldsAll around calls = AllByRecursion (HoldsCall around) calls
 
 -- the room is enough for a turn
 abbrev pub HoldsTurn : Surroundings → Turn → Type 0
-HoldsTurn around (WhileTurn condition body) = HoldsAll around (calls_in condition) × HoldsAll around (calls_in_list body)
-HoldsTurn around (IterateTurn head body) =
-    HoldsAll around (calls_in_iteration head) × HoldsAll around (calls_in_list body)
+HoldsTurn around (LoopTurn head body) =
+    HoldsAll around (calls_in_head head) × HoldsAll around (calls_in_list body)
 
 -- a part given from outside does not go outside for the stack if the room is enough
 pub record LaterStays (later : Later) : Type 0 where

@@ -247,23 +247,4 @@ enters {at = at} {base = base} {to = to} {need = need} {bound = bound} {budget =
             by_null _ IsNull there =
                 after_step (there ∙ ap (λ (place : ℕ). at_place place r memory u.events) entries.end_is)
                 (reaches_end u r memory entries.after_is stage)
-        by_form (statements.Label label) form item_is led_there =
-            general (statements.Label label) item_is led_there
-        by_form (statements.Assignment range value) form item_is led_there =
-            general (statements.Assignment range value) item_is led_there
-        by_form (statements.Call procedure range) form item_is led_there =
-            general (statements.Call procedure range) item_is led_there
-        by_form (statements.Move count source destination) form item_is led_there =
-            general (statements.Move count source destination) item_is led_there
-        by_form (statements.Return value) form item_is led_there =
-            general (statements.Return value) item_is led_there
-        by_form statements.Halt form item_is led_there = general statements.Halt item_is led_there
-        by_form (statements.If condition body otherwise) form item_is led_there =
-            general (statements.If condition body otherwise) item_is led_there
-        by_form (statements.Do range) form item_is led_there = general (statements.Do range) item_is led_there
-        by_form (statements.While condition range) form item_is led_there =
-            general (statements.While condition range) item_is led_there
-        by_form (statements.Iterate head range) form item_is led_there =
-            general (statements.Iterate head range) item_is led_there
-        by_form (statements.Case choice range) form item_is led_there =
-            general (statements.Case choice range) item_is led_there
+        by_form one form item_is led_there = general one item_is led_there

@@ -1,5 +1,6 @@
 -- What is known of the head of an iterative DO: its numbers, and the variable by which its code counts.
-use Rattle.statement_laws.proofs.Prelude.{◌≡◌, ℕ, ◌+◌, ◌*◌, ◌<◌, Bool, true, false, nat_eq, nat_le, List, Option, Some, None, refl, sym, ap, ◌∙◌, arith, IfSome, eqb-true, same_Some, ScalarType, Byte, Address, height_of_statement, type_of, ListStands, IterateStatement, TypedExpression, TypedIteration, TypedList, TypesHold, TypesHoldInHead, TypesHoldInList, step_value, value, SourceState, Gave, as_type, Registers, ExpressionNumber, Range, Location, Iteration, IsExpressionIn, IsIteration, IsList, IsNoValue, IsOptional, IsSomeValue, IsReady, Facts, Site, location_of, number, knowing, whole, converted, counter_of, counts_by_one, has_a_turn, Here, site_of, nodes_in, number_small, number_means, BodyContext, IsSoundBody, value_is_word}
+use Rattle.statement_laws.proofs.Prelude.{◌≡◌, ℕ, ◌+◌, ◌*◌, ◌<◌, Bool, true, false, nat_eq, nat_le, List, Option, Some, None, refl, sym, ap, ◌∙◌, arith, IfSome, eqb-true, same_Some, ScalarType, Byte, Address, height_of_statement, type_of, ListStands, LoopStatement, TypedExpression, TypedIteration, TypedList, TypesHold, TypesHoldInHead, TypesHoldInList, step_value, value, SourceState, Gave, as_type, Registers, ExpressionNumber, Range, Location, Iteration, IsExpressionIn, IsIteration, IsList, IsNoValue, IsOptional, IsSomeValue, IsReady, Facts, Site, location_of, number, knowing, whole, converted, counter_of, counts_by_one, has_a_turn, Here, site_of, nodes_in, number_small, number_means, BodyContext, IsSoundBody, value_is_word}
+use Rattle.typed_trees.specs.TypedTrees.{CountHead}
 use Rattle.statement_laws.proofs.Loops.CountedVariables.{is_counted, variable_address}
 use Rattle.statement_laws.proofs.Loops.EnteredLoops.{first_value_is}
 use Rattle.statement_laws.proofs.Loops.FirstStored.{first_stored}
@@ -19,7 +20,7 @@ loop_of at base to after s head list below = record {
   to = to;
   after = after;
   budget = s.budget;
-  need = 2 + 2 * height_of_statement (IterateStatement head list);
+  need = 2 + 2 * height_of_statement (LoopStatement (CountHead head) list);
   head = head;
   list = list;
   below = below;
@@ -33,7 +34,7 @@ pub iterates_so :
     → IsSoundBody at
     → IsIteration (nodes_in at.context) at.context.storage planned head
     → IsList (nodes_in at.context) at.context.storage at.labels bound range list
-    → TypesHoldInHead at.context.typed at.context.within head
+    → TypesHoldInHead at.context.typed at.context.within (CountHead head)
     → TypesHoldInList at.context.typed at.context.within list
     → ListStands list
     → Iterates at (loop_of at base to after s head list below) planned range

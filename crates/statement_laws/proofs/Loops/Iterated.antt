@@ -1,5 +1,6 @@
 -- An iterative DO, by the form that its code has.
-use Rattle.statement_laws.proofs.Prelude.{◌≡◌, ℕ, Bool, true, false, if◌then◌else◌, List, [], ◌++◌, Option, Some, None, refl, sym, arith, leb-false, value, write_variable, SourceState, as_type, Registers, Range, Iteration, IsIterate, Does, at_place, Facts, Site, number, knowing, Counter, Planned, counter_of, has_a_turn, counts_in_place, first_steps, general_steps, to_known_steps, turns_if_any, turns_steps, Here, site_of, statement_steps, then_again, does_same, loaded_in, BodyContext, IsSoundBody, StatementStands}
+use Rattle.statement_laws.proofs.Prelude.{◌≡◌, ℕ, Bool, true, false, if◌then◌else◌, List, [], ◌++◌, Option, Some, None, refl, sym, arith, leb-false, value, write_variable, SourceState, as_type, Registers, Range, Iteration, Does, at_place, Facts, Site, number, knowing, Counter, Planned, counter_of, has_a_turn, counts_in_place, first_steps, general_steps, to_known_steps, turns_if_any, turns_steps, Here, site_of, statement_steps, then_again, does_same, loaded_in, BodyContext, IsSoundBody, StatementStands}
+use Rattle.treecode.specs.internal.Lowered.{IsIterate}
 use Rattle.treecode.specs.declared.statement.Statement.TheVariants as statements
 use Rattle.statement_laws.proofs.Loops.EnteredLoops.{enters_never, whole_loop}
 use Rattle.statement_laws.proofs.Loops.FirstStored.{FirstThere, first_stored, first_stores}

@@ -1,5 +1,6 @@
 -- Turns of an iterative DO: each takes one of the budget, for which a step pays that leads to its code.
-use Rattle.statement_laws.proofs.Prelude.{◌≡◌, ◌≢◌, ℕ, zero, suc, ◌+◌, ◌-◌, ◌*◌, ◌<◌, ◌≤◌, ◌==◌, Bool, true, false, nat_lt, if◌then◌else◌, List, refl, sym, ap, subst, arith, eqb-true, eqb-false, same_after, height_of_list, TypedIteration, TypedList, ListStands, TypesHoldInList, IterateTurn, Later, done_list, iterated, next_turn, stepped, turn_of, SourceState, Ended, More, Outside, Outcome, Gave, Stopped, then_do, taking_one, Flow, Onward, Returned, Jumped, values_of, again_is, Running, Registers, State, step_of, Range, IsList, Facts, Here, Does, Loaded, Lands, at_place, after_paid_step, does_without_step, then_does, told_on, nodes_in, Stage, loaded_in, script_of, BodyContext, IsSoundBody, Leaves, ListDoes}
+use Rattle.statement_laws.proofs.Prelude.{◌≡◌, ◌≢◌, ℕ, zero, suc, ◌+◌, ◌-◌, ◌*◌, ◌<◌, ◌≤◌, ◌==◌, Bool, true, false, nat_lt, if◌then◌else◌, List, refl, sym, ap, subst, arith, eqb-true, eqb-false, same_after, height_of_list, TypedIteration, TypedList, ListStands, TypesHoldInList, Later, LoopTurn, Turn, done_list, iterated, next_turn, stepped, turn_of, SourceState, Ended, More, Outside, Outcome, Gave, Stopped, then_do, taking_one, Flow, Onward, Returned, Jumped, values_of, again_is, Running, Registers, State, step_of, Range, IsList, Facts, Here, Does, Loaded, Lands, at_place, after_paid_step, does_without_step, then_does, told_on, nodes_in, Stage, loaded_in, script_of, BodyContext, IsSoundBody, Leaves, ListDoes}
+use Rattle.typed_trees.specs.TypedTrees.{CountHead}
 
 -- a machine at nothing pushed, of which this is known
 abbrev pub StageAt :
@@ -255,11 +256,12 @@ pub next_is :
     → next_turn at.context.later at.context.activation.around loop.head loop.list sum t
     ≡ (if nat_lt sum (values_of (loop.head).scalar) then from_test loop t else Gave Onward t)
 next_is {at = at} loop sum t sound less =
+    let turn : Turn = LoopTurn (CountHead loop.head) loop.list in
     ap (λ (outcome : Outcome Flow). if nat_lt sum
     (values_of (loop.head).scalar) then outcome else Gave Onward t)
-    (subst (λ (later : Later). later.again (IterateTurn loop.head loop.list) at.context.activation.around t
-    ≡ turn_of later (IterateTurn loop.head loop.list) at.context.activation.around t) (sym sound.later)
-    (again_is sound.bound (IterateTurn loop.head loop.list) at.context.activation.around t
+    (subst (λ (later : Later). later.again turn at.context.activation.around t
+    ≡ turn_of later turn at.context.activation.around t) (sym sound.later)
+    (again_is sound.bound turn at.context.activation.around t
     (let below = loop.below in let number = sound.number in omega (arith, less, below, number))))
 
 -- the end of a loop

@@ -9,7 +9,7 @@ use Rattle.trees.specs.declared.identifier.Identifier.{Identifier}
 use Rattle.trees.specs.declared.identifier.Place.{Place}
 use Rattle.grammar.specs.Forms.{expression_level}
 use Rattle.grammar.specs.Symbols.{Symbol, NameSymbol, SemicolonSymbol, PlacedSymbol}
-use Rattle.trees.specs.Trees.{ExpressionTree, IterationTree, StatementTree, LabelledStatement, StatementKindTree, NullStatement, AssignmentStatement, CallStatement, ReturnStatement, HaltStatement, GotoStatement, IfStatement, ElseTree, NoElse, ElseStatement, DoStatement, WhileStatement, IterateStatement, CaseStatement, StatementTrees, NoStatements, MoreStatements, DeclarationTree, DeclareTree, ProcedureTree, DeclarationTrees, NoDeclarations, MoreDeclarations, ModuleTree}
+use Rattle.trees.specs.Trees.{ExpressionTree, IterationTree, LoopHeadTree, WhileHead, CountHead, StatementTree, LabelledStatement, StatementKindTree, NullStatement, AssignmentStatement, CallStatement, ReturnStatement, HaltStatement, GotoStatement, IfStatement, ElseTree, NoElse, ElseStatement, DoStatement, LoopStatement, CaseStatement, StatementTrees, NoStatements, MoreStatements, DeclarationTree, DeclareTree, ProcedureTree, DeclarationTrees, NoDeclarations, MoreDeclarations, ModuleTree}
 use Rattle.syntax.specs.declared.statements.Beginning.{Beginning}
 use Rattle.syntax.specs.declared.statements.Beginning.TheVariants as beginnings
 use Rattle.syntax.specs.internal.Reader.{Parser, Reading, Cause, Unexpected, TooDeep, OtherEndName, ◌>>=◌, at_mark, at_word, place_of_word, next_name, mark, semicolon, word, name, taken}
@@ -182,7 +182,7 @@ step inner symbols =
       Ok (Some (found.0), found.1))
     else Ok (None, symbols)
 
--- name `=` expression TO expression [BY expression] `;`
+-- name `=` expression TO expression [BY expression]
 unfoldable pub iteration : ExpressionParser → Parser IterationTree
 iteration inner symbols = do
   its_variable ← name symbols
@@ -191,8 +191,20 @@ iteration inner symbols = do
   after ← word words.To its_first.1
   its_last ← inner expression_level after
   its_step ← step inner its_last.1
-  end ← semicolon its_step.1
-  Ok (record { variable = its_variable.0; first = its_first.0; last = its_last.0; step = its_step.0 }, end.1)
+  Ok (
+    record { variable = its_variable.0; first = its_first.0; last = its_last.0; step = its_step.0 },
+    its_step.1,
+  )
+
+-- WHILE expression, or the head of an iterative DO
+unfoldable pub loop_head : ExpressionParser → Parser LoopHeadTree
+loop_head inner symbols =
+    if at_word words.While symbols then (do
+      condition ← inner expression_level (drop 1 symbols)
+      Ok (WhileHead condition.0, condition.1))
+    else (do
+      found ← iteration inner symbols
+      Ok (CountHead found.0, found.1))
 
 -- {declaration} {statement} END `;`, after DO `;`
 unfoldable pub simple_do : BlockParser → Place → Parser StatementKindTree
@@ -201,13 +213,13 @@ simple_do inside place symbols = do
   rest ← end_of_do found.1
   Ok (DoStatement place found.0.0 found.0.1, rest)
 
--- expression `;` {statement} END `;`, after DO WHILE
-unfoldable pub while_do : ExpressionParser → Parser StatementTree → Place → Parser StatementKindTree
-while_do expressions inner place symbols = do
-  condition ← expressions expression_level symbols
-  start ← semicolon condition.1
+-- the head of a loop `;` {statement} END `;`, after DO
+unfoldable pub loop_do : ExpressionParser → Parser StatementTree → Place → Parser StatementKindTree
+loop_do expressions inner place symbols = do
+  head ← loop_head expressions symbols
+  start ← semicolon head.1
   body ← body_of_do inner start.1
-  Ok (WhileStatement place condition.0 body.0, body.1)
+  Ok (LoopStatement place head.0 body.0, body.1)
 
 -- expression `;` {statement} END `;`, after DO CASE
 unfoldable pub case_do : ExpressionParser → Parser StatementTree → Place → Parser StatementKindTree
@@ -217,13 +229,6 @@ case_do expressions inner place symbols = do
   body ← body_of_do inner start.1
   Ok (CaseStatement place choice.0 body.0, body.1)
 
--- name `=` expression TO expression [BY expression] `;` {statement} END `;`, after DO
-unfoldable pub iterative_do : ExpressionParser → Parser StatementTree → Place → Parser StatementKindTree
-iterative_do expressions inner place symbols = do
-  head ← iteration expressions symbols
-  body ← body_of_do inner head.1
-  Ok (IterateStatement place head.0 body.0, body.1)
-
 -- the rest of a statement, after DO
 unfoldable pub do_statement : ExpressionParser
     → Parser StatementTree
@@ -232,9 +237,8 @@ unfoldable pub do_statement : ExpressionParser
     → Parser StatementKindTree
 do_statement expressions inner inside place symbols =
     if at_semicolon symbols then simple_do inside place (drop 1 symbols)
-    else (if at_word words.While symbols then while_do expressions inner place (drop 1 symbols)
     else (if at_word words.Case symbols then case_do expressions inner place (drop 1 symbols)
-    else iterative_do expressions inner place symbols))
+    else loop_do expressions inner place symbols)
 
 -- name `;`, after GOTO
 unfoldable pub goto : Place → Parser StatementKindTree

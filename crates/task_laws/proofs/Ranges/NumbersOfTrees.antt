@@ -1,6 +1,8 @@
 -- The numbers of a module that is tree code have 16 bits, since those of tree code have. So a program of such
 -- modules has types.
-use Rattle.task_laws.proofs.Prelude.{◌≡◌, ◌⊎◌, inl, inr, ℕ, suc, ◌<◌, ◌≤◌, List, [], ◌∷◌, length, get_or, Option, Some, None, slice_get, refl, sym, subst, arith, slice_get_cases, slice_get_within, All, AllByRecursion, All-from_recursion, IsScript, ListsGlobals, IsWellTyped, IsJoined, Program, Subscript, TypedArguments, TypedElse, TypedExpression, TypedIteration, TypedList, TypedModule, TypedProcedure, TypedReference, TypedStatement, TypedStatements, TypedTarget, Storage, ExpressionForm, ExpressionNumber, Range, TreeModule, TreeProcedure, Reference, IndexNode, Target, Iteration, Statement, StatementNumber, AreArguments, AreMore, AreMoreStatements, AreNoStatements, AreNone, AreStatements, AreTargets, IsAbsent, IsAssignment, IsBinary, IsCall, IsCallOf, IsCase, IsConstantList, IsConversion, IsDo, IsElse, IsEmbedded, IsExpression, IsForm, IsFunction, IsGoto, IsHalt, IsIf, IsIndex, IsInput, IsIterate, IsIteration, IsLabel, IsList, IsListOf, IsLocation, IsLowered, IsMove, IsNoElse, IsNoValue, IsNode, IsNull, IsNumber, IsOptional, IsPart, IsReference, IsReturn, IsSent, IsShift, IsSomeElse, IsSomeValue, IsStatement, IsStatementForm, IsStatementNode, IsStored, IsSubscript, IsTarget, IsUnary, IsValue, IsWhile, MoreTargets, NoTargets, Nodes, nodes_of, NumbersAreWords, NumbersFit, NumbersFitIfSome, NumbersFitIn, NumbersFitInArguments, NumbersFitInElse, NumbersFitInHead, NumbersFitInList, NumbersFitInModule, NumbersFitInProcedure, NumbersFitInReference, NumbersFitInStatements, NumbersFitInSubscript, NumbersFitInTarget, NumbersFitInTargets, HasTypes}
+use Rattle.task_laws.proofs.Prelude.{◌≡◌, ◌⊎◌, inl, inr, ℕ, suc, ◌<◌, ◌≤◌, List, [], ◌∷◌, length, get_or, Option, Some, None, slice_get, refl, sym, subst, arith, slice_get_cases, slice_get_within, All, AllByRecursion, All-from_recursion, IsScript, ListsGlobals, IsWellTyped, IsJoined, Program, Subscript, TypedArguments, TypedElse, TypedExpression, TypedIteration, TypedList, TypedModule, TypedProcedure, TypedReference, TypedStatement, TypedStatements, TypedTarget, Storage, ExpressionForm, ExpressionNumber, Range, TreeModule, TreeProcedure, Reference, IndexNode, Target, Iteration, Statement, StatementNumber, AreArguments, AreMore, AreMoreStatements, AreNoStatements, AreNone, AreStatements, AreTargets, IsAbsent, IsAssignment, IsBinary, IsCall, IsCallOf, IsCase, IsConstantList, IsConversion, IsDo, IsElse, IsEmbedded, IsExpression, IsForm, IsFunction, IsIf, IsIndex, IsInput, IsIteration, IsList, IsListOf, IsLocation, IsLowered, IsMove, IsNoElse, IsNoValue, IsNode, IsNumber, IsOptional, IsPart, IsReference, IsReturn, IsSent, IsShift, IsSomeElse, IsSomeValue, IsStatement, IsStatementForm, IsStatementNode, IsStored, IsSubscript, IsTarget, IsUnary, IsValue, MoreTargets, NoTargets, Nodes, nodes_of, NumbersAreWords, NumbersFit, NumbersFitIfSome, NumbersFitIn, NumbersFitInArguments, NumbersFitInElse, NumbersFitInHead, NumbersFitInList, NumbersFitInModule, NumbersFitInProcedure, NumbersFitInReference, NumbersFitInStatements, NumbersFitInSubscript, NumbersFitInTarget, NumbersFitInTargets, HasTypes}
+use Rattle.typed_trees.specs.TypedTrees.{CountHead}
+use Rattle.treecode.specs.internal.Lowered.{IsIterate, IsWhile}
 use Rattle.treecode.specs.declared.expression.ExpressionForm.TheVariants as forms
 
 module _ (nodes : Nodes) (storage : Storage) (words : NumbersAreWords nodes) where
@@ -57,7 +59,7 @@ module _ (nodes : Nodes) (storage : Storage) (words : NumbersAreWords nodes) whe
   in_targets (MoreTargets there is more) = (in_target is, in_targets more)
 
   in_head : (head : Iteration) (tree : TypedIteration) → IsIteration nodes storage head tree
-      → NumbersFitInHead tree
+      → NumbersFitInHead (CountHead tree)
   in_head head tree is = (in_node is.first, in_node is.last, in_optional is.step)
 
   mutual
@@ -67,20 +69,17 @@ module _ (nodes : Nodes) (storage : Storage) (words : NumbersAreWords nodes) whe
 
     in_statement_form : {labels : List ℕ} {bound : ℕ} {statement : Statement} {tree : TypedStatement}
         → IsStatementForm nodes storage labels bound statement tree → NumbersFitIn tree
-    in_statement_form (IsLabel there) = tt
-    in_statement_form IsNull = tt
     in_statement_form (IsAssignment targets is) = (in_node is, in_targets targets)
     in_statement_form (IsCall given) = in_arguments given
     in_statement_form (IsMove count from to) = (in_node count, in_node from, in_node to)
     in_statement_form (IsReturn is) = in_optional is
-    in_statement_form IsHalt = tt
-    in_statement_form (IsGoto there) = tt
     in_statement_form (IsIf condition body otherwise) =
         (in_node condition, in_statement body, in_else otherwise)
     in_statement_form (IsDo list) = in_list list
     in_statement_form (IsWhile condition list) = (in_node condition, in_list list)
     in_statement_form (IsIterate {head = head} {tree = tree} is list) = (in_head head tree is, in_list list)
     in_statement_form (IsCase choice list) = (in_node choice, in_statements list)
+    in_statement_form form = tt
 
     in_else : {labels : List ℕ} {bound : ℕ} {number : Option StatementNumber} {tree : TypedElse}
         → IsElse nodes storage labels bound number tree → NumbersFitInElse tree

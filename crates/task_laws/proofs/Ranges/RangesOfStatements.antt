@@ -1,6 +1,7 @@
 -- Values of typed trees are of their types: for statements, provided that those of calls, further turns and
 -- jumps are.
-use Rattle.task_laws.proofs.Prelude.{◌≡◌, ℕ, zero, suc, ◌+◌, ◌-◌, ◌%◌, ◌<◌, ◌==◌, Bool, true, false, nat_le, nat_lt, Option, Some, None, option_map, slice_get, if◌then◌else◌, refl, subst, IfSome, MEMORY_SIZE, type_of, TypedExpression, TypedIteration, TypedStatement, LabelStatement, NullStatement, AssignmentStatement, CallStatement, MoveStatement, ReturnStatement, HaltStatement, GotoStatement, IfStatement, DoStatement, WhileStatement, IterateStatement, CaseStatement, TypedElse, NoElse, ElseStatement, TypedStatements, NoStatements, MoreStatements, TypedList, ListOf, TypedModule, IsReturned, TypesHold, TypesHoldIn, TypesHoldInElse, TypesHoldInList, TypesHoldInStatements, Within, WithinMain, WithinProcedure, InMemory, Surroundings, place_of, read_byte, write_byte, IterateTurn, Later, Turn, WhileTurn, after_turn, called_for, callee_in, caught_in, done, done_all, done_case, done_else, done_list, dropped, going_on, iterated, landed, moved, next_turn, read_variable, rest_from, rest_of, returned, step_value, stepped, stored_in_each, turn_of, value, values, write_variable, Flow, Gave, Jumped, More, Onward, Outcome, Returned, Stopped, taking_one, then_do, as_type, is_true, values_of, SourceFits, NumbersFit, NumbersFitIfSome, NumbersFitIn, NumbersFitInElse, NumbersFitInList, NumbersFitInStatements, HasTypes, as_type_fits}
+use Rattle.task_laws.proofs.Prelude.{◌≡◌, ℕ, zero, suc, ◌+◌, ◌-◌, ◌%◌, ◌<◌, ◌==◌, Bool, true, false, nat_le, nat_lt, Option, Some, None, option_map, slice_get, if◌then◌else◌, refl, subst, IfSome, MEMORY_SIZE, type_of, TypedExpression, TypedHead, TypedIteration, TypedStatement, LabelStatement, NullStatement, AssignmentStatement, CallStatement, MoveStatement, ReturnStatement, HaltStatement, GotoStatement, IfStatement, DoStatement, LoopStatement, CaseStatement, TypedElse, NoElse, ElseStatement, TypedStatements, NoStatements, MoreStatements, TypedList, ListOf, TypedModule, IsReturned, TypesHold, TypesHoldIn, TypesHoldInElse, TypesHoldInHead, TypesHoldInList, TypesHoldInStatements, Within, WithinMain, WithinProcedure, InMemory, Surroundings, place_of, read_byte, write_byte, Later, LoopTurn, Turn, after_turn, begun_loop, called_for, callee_in, caught_in, done, done_all, done_case, done_else, done_list, dropped, going_on, iterated, landed, moved, next_turn, read_variable, rest_from, rest_of, returned, step_value, stepped, stored_in_each, turn_of, turned_loop, value, values, write_variable, Flow, Gave, Jumped, More, Onward, Outcome, Returned, Stopped, taking_one, then_do, as_type, is_true, values_of, SourceFits, NumbersFit, NumbersFitIfSome, NumbersFitIn, NumbersFitInElse, NumbersFitInHead, NumbersFitInList, NumbersFitInStatements, HasTypes, as_type_fits}
+use Rattle.typed_trees.specs.TypedTrees.{WhileHead, CountHead}
 use Rattle.meaning.specs.Outcomes.{State}
 use Rattle.task_laws.proofs.Ranges.RangesOfBytes.{Gives, IsGiven, IsStopped, byte_fits, gives_then, of_type, read_fits, scalar_fits, write_fits}
 use Rattle.task_laws.proofs.Ranges.RangesOfTrees.{CalleesAreHeaded, CallsGive, FlowFits, LaterFits, ReturnFits, TurnFits, calls_give, takes_fits, targets_fit, tree_fits, trees_fit}
@@ -173,7 +174,7 @@ module _ (later : Later) (fits : LaterFits later) (typed : TypedModule) (within 
       by outcome IsStopped = IsStopped
 
   stepped_fits : (head : TypedIteration) (body : TypedList) (flow : Flow) (s : State)
-      → TurnFits typed within (IterateTurn head body)
+      → TurnFits typed within (LoopTurn (CountHead head) body)
       → FlowFits within flow × SourceFits around s
       → FlowIs (stepped later around head body flow s)
   stepped_fits head body Onward s types both =
@@ -196,15 +197,15 @@ module _ (later : Later) (fits : LaterFits later) (typed : TypedModule) (within 
       (write_fits around head.scalar (place_of around head.variable) (as_type head.scalar (number + step)) u
       (as_type_fits head.scalar (number + step)) two)
       (λ _ v three.
-      either (nat_lt (number + step) (values_of head.scalar)) (later.again (IterateTurn head body) around v)
-      (Gave Onward v)
-      (fits.again typed within (IterateTurn head body) around v program here types three)
+      either (nat_lt (number + step) (values_of head.scalar))
+      (later.again (LoopTurn (CountHead head) body) around v) (Gave Onward v)
+      (fits.again typed within (LoopTurn (CountHead head) body) around v program here types three)
       (IsGiven (tt, three)))))
   stepped_fits head body (Returned found) s types both = IsGiven both
   stepped_fits head body (Jumped label) s types both = IsGiven both
 
   iterated_fits : (head : TypedIteration) (body : TypedList) (body_done : State → Outcome Flow) (s : State)
-      → TurnFits typed within (IterateTurn head body)
+      → TurnFits typed within (LoopTurn (CountHead head) body)
       → ((v : State) → SourceFits around v → FlowIs (body_done v))
       → SourceFits around s
       → FlowIs (iterated later around head body body_done s)
@@ -230,6 +231,49 @@ module _ (later : Later) (fits : LaterFits later) (typed : TypedModule) (within 
       (λ v less.
       gives_then (body_done v) (stepped later around head body) (inside v less)
       (λ flow w three. stepped_fits head body flow w types three)))))
+
+  turned_fits : (head : TypedHead) (body : TypedList) (body_done : State → Outcome Flow) (s : State)
+      → TurnFits typed within (LoopTurn head body)
+      → ((v : State) → SourceFits around v → FlowIs (body_done v))
+      → SourceFits around s
+      → FlowIs (turned_loop later around head body body_done s)
+  turned_fits (WhileHead condition) body body_done s types inside source =
+      gives_then (value later around condition s)
+      (λ n t.
+      if is_true n
+      then taking_one t
+      (λ u. then_do (body_done u) (after_turn later around (LoopTurn (WhileHead condition) body)))
+      else Gave Onward t)
+      (value_is condition s (types.0).0 (types.0).1 source)
+      (λ n t one.
+      either (is_true n)
+      (taking_one t
+      (λ u. then_do (body_done u) (after_turn later around (LoopTurn (WhileHead condition) body))))
+      (Gave Onward t)
+      (after_taking around t
+      (λ u. then_do (body_done u) (after_turn later around (LoopTurn (WhileHead condition) body))) one.1
+      (λ u less.
+      gives_then (body_done u) (after_turn later around (LoopTurn (WhileHead condition) body)) (inside u less)
+      (λ flow v two. after_fits (LoopTurn (WhileHead condition) body) flow v types two)))
+      (IsGiven (tt, one.1)))
+  turned_fits (CountHead head) body body_done s types inside source =
+      iterated_fits head body body_done s types inside source
+
+  begun_fits : (head : TypedHead) (turns : State → Outcome Flow) (s : State)
+      → TypesHoldInHead typed within head → NumbersFitInHead head
+      → ((t : State) → SourceFits around t → FlowIs (turns t))
+      → SourceFits around s
+      → FlowIs (begun_loop later around head turns s)
+  begun_fits (WhileHead condition) turns s types small rest source = rest s source
+  begun_fits (CountHead head) turns s types small rest source =
+      gives_then (value later around head.first s)
+      (λ first t. then_do (write_variable around head (as_type head.scalar first) t) (λ _ u. turns u))
+      (value_is head.first s types.1 small.0 source)
+      (λ first t one.
+      gives_then (write_variable around head (as_type head.scalar first) t) (λ _ u. turns u)
+      (write_fits around head.scalar (place_of around head.variable) (as_type head.scalar first) t
+      (as_type_fits head.scalar first) one.1)
+      (λ _ u two. rest u two))
 
   mutual
     pub statement_fits : (statement : TypedStatement) (s : State)
@@ -291,42 +335,12 @@ module _ (later : Later) (fits : LaterFits later) (typed : TypedModule) (within 
         (statement_fits body t types.1 small.1 one.1)
         (else_fits otherwise t types.2 small.2 one.1))
     statement_fits (DoStatement body) s types small source = list_fits body s types small source
-    statement_fits (WhileStatement condition body) s types small source =
-        gives_then (value later around condition s)
-        (λ n t.
-        if is_true n
-        then taking_one t
-        (λ u. then_do (done_list later around body u) (after_turn later around (WhileTurn condition body)))
-        else Gave Onward t)
-        (value_is condition s types.0 small.0 source)
-        (λ n t one.
-        either (is_true n)
-        (taking_one t
-        (λ u. then_do (done_list later around body u) (after_turn later around (WhileTurn condition body))))
-        (Gave Onward t)
-        (after_taking around t
-        (λ u. then_do (done_list later around body u) (after_turn later around (WhileTurn condition body)))
-        one.1
-        (λ u less.
-        gives_then (done_list later around body u) (after_turn later around (WhileTurn condition body))
-        (list_fits body u types.1 small.1 less)
-        (λ flow v two.
-        after_fits (WhileTurn condition body) flow v ((types.0, small.0), types.1, small.1) two)))
-        (IsGiven (tt, one.1)))
-    statement_fits (IterateStatement head body) s types small source =
-        gives_then (value later around head.first s)
-        (λ first t.
-        then_do (write_variable around head (as_type head.scalar first) t)
-        (λ _ u. iterated later around head body (λ v. done_list later around body v) u))
-        (value_is head.first s (types.0).1 (small.0).0 source)
-        (λ first t one.
-        gives_then (write_variable around head (as_type head.scalar first) t)
-        (λ _ u. iterated later around head body (λ v. done_list later around body v) u)
-        (write_fits around head.scalar (place_of around head.variable) (as_type head.scalar first) t
-        (as_type_fits head.scalar first) one.1)
-        (λ _ u two.
-        iterated_fits head body (λ v. done_list later around body v) u ((types.0, small.0), types.1, small.1)
-        (λ v three. list_fits body v types.1 small.1 three) two))
+    statement_fits (LoopStatement head body) s types small source =
+        begun_fits head (turned_loop later around head body (λ v. done_list later around body v)) s
+        types.0 small.0
+        (λ t one.
+        turned_fits head body (λ v. done_list later around body v) t ((types.0, small.0), types.1, small.1)
+        (λ u two. list_fits body u types.1 small.1 two) one) source
     statement_fits (CaseStatement choice statements) s types small source =
         gives_then (value later around choice s) (λ n t. done_case later around statements n t)
         (value_is choice s types.0 small.0 source)
@@ -373,10 +387,8 @@ module _ (later : Later) (fits : LaterFits later) (typed : TypedModule) (within 
   -- a further turn of a loop
   pub turn_fits : (turn : Turn) (s : State) → TurnFits typed within turn → SourceFits around s
       → FlowIs (turn_of later turn around s)
-  turn_fits (WhileTurn condition body) s types source =
-      statement_fits (WhileStatement condition body) s ((types.0).0, types.1) ((types.0).1, types.2) source
-  turn_fits (IterateTurn head body) s types source =
-      iterated_fits head body (done_list later around body) s types
+  turn_fits (LoopTurn head body) s types source =
+      turned_fits head body (done_list later around body) s types
       (λ v inside. list_fits body v types.1 types.2 inside) source
 
   -- the rest of a list from a label on

@@ -1,6 +1,6 @@
 -- Values of typed expressions are of their types, provided that calls give such values: for the trees of any
 -- module of a program.
-use Rattle.task_laws.proofs.Prelude.{◌≡◌, ℕ, ◌+◌, ◌<◌, ◌&&◌, List, [], ◌∷◌, IsSomeAnd, Option, Some, None, slice_get, refl, sym, subst, arith, ScalarType, Byte, Address, type_of, type_of_result, type_of_target, TypedExpression, NumberNode, ValueNode, LocationNode, ListNode, ConversionNode, AssignmentNode, UnaryNode, BinaryNode, CallNode, FunctionNode, ShiftNode, InputNode, TypedReference, PartOf, Subscript, NoSubscript, At, TypedTarget, StoredIn, SentTo, TypedArguments, NoArguments, MoreArguments, TypedModule, TypedProcedure, TypedList, TypedStatements, TypesHold, TypesHoldInArguments, TypesHoldInHead, TypesHoldInList, TypesHoldInReference, TypesHoldInStatements, TypesHoldInSubscript, TypesHoldInTarget, TypesHoldInTargets, Takes, Within, WithinMain, WithinProcedure, types_of, InProgram, IsScript, Surroundings, home_of, read_scalar, write_scalar, IterateTurn, Later, Turn, WhileTurn, address_in_memory, based_place, called_for, callee_in, computed, displaced, displacement, located, procedure_at, stored, stored_in_each, value, values, Flow, Gave, Jumped, Onward, Returned, then_do, as_type, function_of, result_of, result_of_one, shifted, values_of, AreOfTypes, IsOfResult, SourceFits, NumbersFit, NumbersFitInArguments, NumbersFitInHead, NumbersFitInList, NumbersFitInReference, NumbersFitInStatements, NumbersFitInSubscript, NumbersFitInTarget, NumbersFitInTargets, HasTypes, as_type_fits}
+use Rattle.task_laws.proofs.Prelude.{◌≡◌, ℕ, ◌+◌, ◌<◌, ◌&&◌, List, [], ◌∷◌, IsSomeAnd, Option, Some, None, slice_get, refl, sym, subst, arith, ScalarType, Byte, Address, type_of, type_of_result, type_of_target, TypedExpression, NumberNode, ValueNode, LocationNode, ListNode, ConversionNode, AssignmentNode, UnaryNode, BinaryNode, CallNode, FunctionNode, ShiftNode, InputNode, TypedReference, PartOf, Subscript, NoSubscript, At, TypedTarget, StoredIn, SentTo, TypedArguments, NoArguments, MoreArguments, TypedModule, TypedProcedure, TypedList, TypedStatements, TypesHold, TypesHoldInArguments, TypesHoldInHead, TypesHoldInList, TypesHoldInReference, TypesHoldInStatements, TypesHoldInSubscript, TypesHoldInTarget, TypesHoldInTargets, Takes, Within, WithinMain, WithinProcedure, types_of, InProgram, IsScript, Surroundings, home_of, read_scalar, write_scalar, Later, LoopTurn, Turn, address_in_memory, based_place, called_for, callee_in, computed, displaced, displacement, located, procedure_at, stored, stored_in_each, value, values, Flow, Gave, Jumped, Onward, Returned, then_do, as_type, function_of, result_of, result_of_one, shifted, values_of, AreOfTypes, IsOfResult, SourceFits, NumbersFit, NumbersFitInArguments, NumbersFitInHead, NumbersFitInList, NumbersFitInReference, NumbersFitInStatements, NumbersFitInSubscript, NumbersFitInTarget, NumbersFitInTargets, HasTypes, as_type_fits}
 use Rattle.meaning.proofs.FunctionResults.{function_fits}
 use Rattle.meaning.specs.Outcomes.{State}
 use Rattle.task_laws.proofs.Machine.KnownOperands.{number_fits, one_fits, result_fits, shift_fits}
@@ -19,10 +19,7 @@ FlowFits within (Jumped label) = Unit {0}
 
 -- a turn of a loop of a module
 abbrev pub TurnFits : TypedModule → Within → Turn → Type 0
-TurnFits typed within (WhileTurn condition body) =
-    (TypesHold typed within condition × NumbersFit condition) × TypesHoldInList typed within body
-    × NumbersFitInList body
-TurnFits typed within (IterateTurn head body) =
+TurnFits typed within (LoopTurn head body) =
     (TypesHoldInHead typed within head × NumbersFitInHead head) × TypesHoldInList typed within body
     × NumbersFitInList body
 

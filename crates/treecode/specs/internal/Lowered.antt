@@ -9,7 +9,7 @@ use Rattle.typed_trees.specs.declared.parts.ShiftFunction.{ShiftFunction}
 use Rattle.trees.specs.declared.functions.UnaryFunction.{UnaryFunction}
 use Rattle.typed_trees.specs.Charge.{height_of_list}
 use Rattle.typed_trees.specs.ExpressionTypes.{type_of}
-use Rattle.typed_trees.specs.TypedTrees.{TypedExpression, NumberNode, ValueNode, LocationNode, ListNode, ConversionNode, AssignmentNode, UnaryNode, BinaryNode, CallNode, FunctionNode, ShiftNode, InputNode, TypedReference, PartOf, Subscript, NoSubscript, At, TypedTarget, StoredIn, SentTo, TypedArguments, NoArguments, MoreArguments, TypedIteration, TypedStatement, LabelStatement, NullStatement, AssignmentStatement, CallStatement, MoveStatement, ReturnStatement, HaltStatement, GotoStatement, IfStatement, DoStatement, WhileStatement, IterateStatement, CaseStatement, TypedElse, NoElse, ElseStatement, TypedStatements, NoStatements, MoreStatements, TypedList, ListOf, TypedProcedure, TypedModule}
+use Rattle.typed_trees.specs.TypedTrees.{TypedExpression, NumberNode, ValueNode, LocationNode, ListNode, ConversionNode, AssignmentNode, UnaryNode, BinaryNode, CallNode, FunctionNode, ShiftNode, InputNode, TypedReference, PartOf, Subscript, NoSubscript, At, TypedTarget, StoredIn, SentTo, TypedArguments, NoArguments, MoreArguments, TypedIteration, TypedHead, WhileHead, CountHead, TypedStatement, LabelStatement, NullStatement, AssignmentStatement, CallStatement, MoveStatement, ReturnStatement, HaltStatement, GotoStatement, IfStatement, DoStatement, LoopStatement, CaseStatement, TypedElse, NoElse, ElseStatement, TypedStatements, NoStatements, MoreStatements, TypedList, ListOf, TypedProcedure, TypedModule}
 use Rattle.layout.specs.Storage.{Storage}
 use Rattle.meaning.specs.Values.{is_true}
 use Rattle.treecode.specs.declared.expression.Expression.{Expression}
@@ -219,12 +219,12 @@ mutual
         → IsExpressionIn nodes storage condition test
         → IsList nodes storage labels bound range list
         → IsStatementForm nodes storage labels bound (statements.While condition range)
-        (WhileStatement test list)
+        (LoopStatement (WhileHead test) list)
     IsIterate : {bound : ℕ} {head : Iteration} {range : Range} {tree : TypedIteration} {list : TypedList}
         → IsIteration nodes storage head tree
         → IsList nodes storage labels bound range list
         → IsStatementForm nodes storage labels bound (statements.Iterate head range)
-        (IterateStatement tree list)
+        (LoopStatement (CountHead tree) list)
     IsCase : {bound : ℕ} {choice : ExpressionNumber} {range : Range} {tree : TypedExpression}
         {trees : TypedStatements}
         → IsExpressionIn nodes storage choice tree
@@ -265,20 +265,12 @@ numbers_from first (place ∷ places) = first ∷ numbers_from (suc first) place
 abbrev mutual
   -- the labels of the lists in a statement, in the order in which the lists begin
   pub labels_numbered : TypedStatement → List ℕ
-  labels_numbered (LabelStatement label) = []
-  labels_numbered NullStatement = []
-  labels_numbered (AssignmentStatement targets value) = []
-  labels_numbered (CallStatement procedure values) = []
-  labels_numbered (MoveStatement count source destination) = []
-  labels_numbered (ReturnStatement value) = []
-  labels_numbered HaltStatement = []
-  labels_numbered (GotoStatement label) = []
   labels_numbered (IfStatement condition body otherwise) =
       labels_numbered body ++ labels_numbered_in_else otherwise
   labels_numbered (DoStatement body) = labels_numbered_in_list body
-  labels_numbered (WhileStatement condition body) = labels_numbered_in_list body
-  labels_numbered (IterateStatement head body) = labels_numbered_in_list body
+  labels_numbered (LoopStatement head body) = labels_numbered_in_list body
   labels_numbered (CaseStatement choice body) = labels_numbered_in_statements body
+  labels_numbered statement = []
 
   pub labels_numbered_in_else : TypedElse → List ℕ
   labels_numbered_in_else NoElse = []
@@ -298,6 +290,11 @@ abbrev pub ends_by : Option ℕ → Bool
 ends_by None = true
 ends_by (Some number) = not (is_true number)
 
+-- whether a loop with this head can end
+abbrev pub head_ends : List Home → Storage → TypedHead → Bool
+head_ends starts storage (WhileHead condition) = ends_by (known_number (known_value starts storage condition))
+head_ends starts storage (CountHead head) = true
+
 abbrev mutual
   -- Whether the end of a statement can be reached, judged by its form and by known conditions.
   pub reaches_end : List Home → Storage → TypedStatement → Bool
@@ -307,8 +304,7 @@ abbrev mutual
   reaches_end starts storage (IfStatement condition body otherwise) =
       reaches_end starts storage body || reaches_end_of_else starts storage otherwise
   reaches_end starts storage (DoStatement body) = reaches_end_of_list starts storage true body
-  reaches_end starts storage (WhileStatement condition body) =
-      ends_by (known_number (known_value starts storage condition))
+  reaches_end starts storage (LoopStatement head body) = head_ends starts storage head
   reaches_end starts storage statement = true
 
   pub reaches_end_of_else : List Home → Storage → TypedElse → Bool

@@ -1,6 +1,6 @@
 -- The nodes that lowering adds for the statements of a body, as functions of the tables and of the tree.
 use Rattle.std.specs.Prelude.{ℕ, zero, suc, ◌+◌, min, max, Bool, true, false, ◌||◌, List, [], ◌∷◌, ◌++◌, length, Option, Some, None, unwrap_or}
-use Rattle.typed_trees.specs.TypedTrees.{TypedExpression, TypedTarget, TypedArguments, TypedIteration, TypedStatement, LabelStatement, NullStatement, AssignmentStatement, CallStatement, MoveStatement, ReturnStatement, HaltStatement, GotoStatement, IfStatement, DoStatement, WhileStatement, IterateStatement, CaseStatement, TypedElse, NoElse, ElseStatement, TypedStatements, NoStatements, MoreStatements, TypedList, ListOf}
+use Rattle.typed_trees.specs.TypedTrees.{TypedExpression, TypedTarget, TypedArguments, TypedIteration, TypedStatement, LabelStatement, NullStatement, AssignmentStatement, CallStatement, MoveStatement, ReturnStatement, HaltStatement, GotoStatement, IfStatement, DoStatement, LoopStatement, WhileHead, CountHead, CaseStatement, TypedElse, NoElse, ElseStatement, TypedStatements, NoStatements, MoreStatements, TypedList, ListOf}
 use Rattle.layout.specs.Storage.{Storage}
 use Rattle.treecode.specs.declared.expression.ExpressionNumber.{ExpressionNumber}
 use Rattle.treecode.specs.declared.lists.Range.{Range}
@@ -197,9 +197,9 @@ abbrev mutual
       (statement_in storage (value_in storage walk test).0 then_tree).1
       (else_in storage (statement_in storage (value_in storage walk test).0 then_tree).0 else_tree)
   statement_in storage walk (DoStatement list) = put_do (list_in storage walk list)
-  statement_in storage walk (WhileStatement test list) =
+  statement_in storage walk (LoopStatement (WhileHead test) list) =
       put_while (value_in storage walk test).1 (list_in storage (value_in storage walk test).0 list)
-  statement_in storage walk (IterateStatement head list) =
+  statement_in storage walk (LoopStatement (CountHead head) list) =
       put_iterate (iteration_in storage walk head).1 (list_in storage (iteration_in storage walk head).0 list)
   statement_in storage walk (CaseStatement tree trees) =
       put_case (value_in storage walk tree).1

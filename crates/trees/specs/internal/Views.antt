@@ -28,16 +28,17 @@ use Rattle.trees.specs.declared.statement.Block.{Block, Block', out-Block, Row_o
 use Rattle.trees.specs.declared.statement.Declaration.{Declaration}
 use Rattle.trees.specs.declared.statement.Declaration.TheVariants as declarations
 use Rattle.trees.specs.declared.statement.DoCase.{DoCase'}
-use Rattle.trees.specs.declared.statement.DoWhile.{DoWhile'}
 use Rattle.trees.specs.declared.statement.Heading.{Heading}
 use Rattle.trees.specs.declared.statement.Iteration.{Iteration}
 use Rattle.trees.specs.declared.statement.IfThen.{IfThen', Held-IfThen-otherwise, None' as NoElse', Some' as SomeElse'}
-use Rattle.trees.specs.declared.statement.IterativeDo.{IterativeDo'}
+use Rattle.trees.specs.declared.statement.Loop.{Loop'}
+use Rattle.trees.specs.declared.statement.LoopHead.{LoopHead}
+use Rattle.trees.specs.declared.statement.LoopHead.TheVariants as heads
 use Rattle.trees.specs.declared.statement.Procedure.{Procedure'}
 use Rattle.trees.specs.declared.statement.Statement.{Statement}
 use Rattle.trees.specs.declared.statement.StatementKind.{StatementKind}
 use Rattle.trees.specs.declared.statement.StatementKind.TheVariants as kinds
-use Rattle.trees.specs.Trees.{StringTree, ConstantTree, NumberConstant, StringConstant, ExpressionTree, ConstantLeaf, ReferenceLeaf, LocationLeaf, ListLeaf, ParenthesizedNode, AssignmentNode, UnaryNode, BinaryNode, ReferenceTree, ReferenceTo, MemberTree, NoMember, MemberOf, ArgumentTrees, NoArguments, MoreArguments, OriginTree, ConstantOrigin, LocationOrigin, OffsetTree, RestrictedTree, ItemTypeTree, ScalarItem, StructureItem, AtTree, ValueListTree, SubjectTree, SingleSubject, GroupSubject, ItemTree, ElementTree, LiterallyElement, ItemElement, HeadingTree, IterationTree, StatementTree, LabelledStatement, StatementKindTree, NullStatement, AssignmentStatement, CallStatement, ReturnStatement, HaltStatement, GotoStatement, IfStatement, DoStatement, WhileStatement, IterateStatement, CaseStatement, ElseTree, NoElse, ElseStatement, StatementTrees, NoStatements, MoreStatements, DeclarationTree, DeclareTree, ProcedureTree, DeclarationTrees, NoDeclarations, MoreDeclarations, ModuleTree}
+use Rattle.trees.specs.Trees.{StringTree, ConstantTree, NumberConstant, StringConstant, ExpressionTree, ConstantLeaf, ReferenceLeaf, LocationLeaf, ListLeaf, ParenthesizedNode, AssignmentNode, UnaryNode, BinaryNode, ReferenceTree, ReferenceTo, MemberTree, NoMember, MemberOf, ArgumentTrees, NoArguments, MoreArguments, OriginTree, ConstantOrigin, LocationOrigin, OffsetTree, RestrictedTree, ItemTypeTree, ScalarItem, StructureItem, AtTree, ValueListTree, SubjectTree, SingleSubject, GroupSubject, ItemTree, ElementTree, LiterallyElement, ItemElement, HeadingTree, IterationTree, LoopHeadTree, WhileHead, CountHead, StatementTree, LabelledStatement, StatementKindTree, NullStatement, AssignmentStatement, CallStatement, ReturnStatement, HaltStatement, GotoStatement, IfStatement, DoStatement, LoopStatement, CaseStatement, ElseTree, NoElse, ElseStatement, StatementTrees, NoStatements, MoreStatements, DeclarationTree, DeclareTree, ProcedureTree, DeclarationTrees, NoDeclarations, MoreDeclarations, ModuleTree}
 
 abbrev pub string_tree : StringLiteral → StringTree
 string_tree literal = record { characters = literal.characters.items; place = literal.place }
@@ -156,6 +157,10 @@ iteration_tree iteration = record {
   step = option_map expression_tree iteration.step;
 }
 
+abbrev pub head_tree : LoopHead → LoopHeadTree
+head_tree (heads.While condition) = WhileHead (expression_tree condition)
+head_tree (heads.Count iteration) = CountHead (iteration_tree iteration)
+
 -- the trees of the targets of an assignment
 abbrev pub target_trees : Reference → List Reference → List ReferenceTree
 target_trees first others = reference_tree first ∷ map reference_tree others
@@ -177,10 +182,8 @@ abbrev mutual
       (held_else_tree otherwise)
   kind_tree (kinds.Do' place p (Block' n declared m body)) =
       DoStatement place (declaration_rows declared) (statement_rows body)
-  kind_tree (kinds.While' p (DoWhile' place condition n body)) =
-      WhileStatement place (expression_tree condition) (statement_rows body)
-  kind_tree (kinds.Iterate' p (IterativeDo' place iteration n body)) =
-      IterateStatement place (iteration_tree iteration) (statement_rows body)
+  kind_tree (kinds.Loop' p (Loop' place head n body)) =
+      LoopStatement place (head_tree head) (statement_rows body)
   kind_tree (kinds.Case' p (DoCase' place choice n body)) =
       CaseStatement place (expression_tree choice) (statement_rows body)
 

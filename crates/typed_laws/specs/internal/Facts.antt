@@ -1,6 +1,6 @@
 -- Trees whose declarations have the form of the grammar: above all, each structure has a member.
 use Rattle.std.specs.List.{AllByRecursion}
-use Rattle.trees.specs.Trees.{StatementTree, LabelledStatement, StatementKindTree, NullStatement, AssignmentStatement, CallStatement, ReturnStatement, HaltStatement, GotoStatement, IfStatement, ElseTree, NoElse, ElseStatement, DoStatement, WhileStatement, IterateStatement, CaseStatement, StatementTrees, NoStatements, MoreStatements, DeclarationTree, DeclareTree, ProcedureTree, DeclarationTrees, NoDeclarations, MoreDeclarations, ModuleTree}
+use Rattle.trees.specs.Trees.{StatementTree, LabelledStatement, StatementKindTree, NullStatement, AssignmentStatement, CallStatement, ReturnStatement, HaltStatement, GotoStatement, IfStatement, ElseTree, NoElse, ElseStatement, DoStatement, LoopStatement, CaseStatement, StatementTrees, NoStatements, MoreStatements, DeclarationTree, DeclareTree, ProcedureTree, DeclarationTrees, NoDeclarations, MoreDeclarations, ModuleTree}
 use Rattle.grammar.specs.Forms.{IsElement}
 
 abbrev mutual
@@ -16,8 +16,7 @@ abbrev mutual
   KindIsFormed (GotoStatement place label) = Unit {0}
   KindIsFormed (IfStatement place condition body otherwise) = StatementIsFormed body × ElseIsFormed otherwise
   KindIsFormed (DoStatement place declared body) = AreFormed declared × StatementsAreFormed body
-  KindIsFormed (WhileStatement place condition body) = StatementsAreFormed body
-  KindIsFormed (IterateStatement place head body) = StatementsAreFormed body
+  KindIsFormed (LoopStatement place head body) = StatementsAreFormed body
   KindIsFormed (CaseStatement place choice body) = StatementsAreFormed body
 
   pub ElseIsFormed : ElseTree → Type 0

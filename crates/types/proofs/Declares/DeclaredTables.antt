@@ -6,7 +6,7 @@ use Rattle.names.specs.{Environment.{into_block, into_list, out_of_block, out_of
 use Rattle.typed_trees.specs.TypedTrees.{TypedElse, TypedObject}
 use Rattle.typing.specs.{Modules.{entered, inner_block}, Procedures.{own_block}, References.{Known}, internal.Expressions.{arguments}, internal.ProcedureChecks.{check_body}, internal.StatementChecks.{without_label}, internal.Typing.{declaration, else_part, kind}}
 use Rattle.typing.proofs.DeclarationsBack.{declare_elements-walk, open_procedure-opens}
-use Rattle.typing.proofs.Parameters.{Opening.{opens_procedure}, ParametersOfTexts.{assignment_same, call_same, goto_same, iteration_same, return_same, value_same}}
+use Rattle.typing.proofs.Parameters.{Opening.{opens_procedure}, ParametersOfTexts.{assignment_same, call_same, goto_same, head_same, return_same, value_same}}
 use Rattle.typing.proofs.Tables.{at_the_start-fits, into_block-fits, into_list-fits, out_of_block-fits, out_of_list-fits}
 use Rattle.types.proofs.Declares.Entries.{Adds, adds_from_here, adds_here, adds_none, adds_then, closed_holds, elements_add, procedure_adds}
 
@@ -78,16 +78,10 @@ mutual
         out_of_block-fits two.0,
         adds_here (into_block progress.known.here) (out_of_block done.1.known.here) (adds_then one.1 two.1),
       )
-  kind_walks block (trees.WhileStatement place condition body) progress holds =
-      in_turn (from_same holds (value_same condition progress)) λ tested one.
+  kind_walks block (trees.LoopStatement place head body) progress holds =
+      in_turn (from_same holds (head_same head progress)) λ headed one.
       in_turn
-      (list_walks body (entries_in_statements body) (λ label. statements block body label) tested.1 one.0
-      (λ label inside h. statements_walk block body label inside h)) λ done two.
-      gives_ok (two.0, adds_then one.1 two.1)
-  kind_walks block (trees.IterateStatement place head body) progress holds =
-      in_turn (from_same holds (iteration_same head progress)) λ counted one.
-      in_turn
-      (list_walks body (entries_in_statements body) (λ label. statements block body label) counted.1 one.0
+      (list_walks body (entries_in_statements body) (λ label. statements block body label) headed.1 one.0
       (λ label inside h. statements_walk block body label inside h)) λ done two.
       gives_ok (two.0, adds_then one.1 two.1)
   kind_walks block (trees.CaseStatement place choice body) progress holds =

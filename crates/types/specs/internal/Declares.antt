@@ -55,8 +55,7 @@ abbrev mutual
   entries_in_kind (trees.IfStatement place condition body otherwise) =
       entries_in_statement body ++ entries_in_else otherwise
   entries_in_kind (trees.DoStatement place declared body) = entries_in declared ++ entries_in_statements body
-  entries_in_kind (trees.WhileStatement place condition body) = entries_in_statements body
-  entries_in_kind (trees.IterateStatement place head body) = entries_in_statements body
+  entries_in_kind (trees.LoopStatement place head body) = entries_in_statements body
   entries_in_kind (trees.CaseStatement place choice body) = entries_in_statements body
 
   pub entries_in_else : ElseTree → List Entry

@@ -1,7 +1,8 @@
 -- Worked values: bodies whose jumps are sound, and some whose jumps are not; a module whose labels differ,
 -- and one with two labels of one number.
 use Rattle.typing.proofs.Prelude.{◌≢◌, ℕ, zero, suc, false, List, [], ◌∷◌, None, refl, sym, subst, arith, Any, All-from_recursion, All-nil, AllPairs-cons, Byte, FromDigits, Private, NumberNode, TypedStatement, LabelStatement, TypedExpression, TypedStatements, TypedList, ListOf, TypedModule, IsAmongLabels, labels_of_list, BodyIsSound, JumpsAreSound}
-use Rattle.typed_trees.specs.TypedTrees.{NullStatement, GotoStatement, IfStatement, DoStatement, WhileStatement, CaseStatement, NoElse, ElseStatement, NoStatements, MoreStatements}
+use Rattle.typed_trees.specs.TypedTrees.{NullStatement, GotoStatement, IfStatement, DoStatement, CaseStatement, NoElse, ElseStatement, NoStatements, MoreStatements}
+use Rattle.typing.specs.internal.Samples.{typed_forever as forever}
 
 abbrev lines : List TypedStatement → TypedStatements
 lines [] = NoStatements
@@ -9,9 +10,6 @@ lines (first ∷ others) = MoreStatements first (lines others)
 
 abbrev always : TypedExpression
 always = NumberNode Byte 1 FromDigits
-
-abbrev forever : TypedList → TypedStatement
-forever body = WhileStatement always body
 
 -- ; L: ; DO WHILE 1; GOTO L; END;: out of a loop, to the second of the statements around it
 abbrev out_of_a_loop : TypedList

@@ -1,10 +1,10 @@
 -- In a typed module each GOTO goes to a label of a list around it, labels stand where their places say, and
 -- no two labels have the same number.
-use Rattle.typing.proofs.Prelude.{◌≡◌, ℕ, ◌+◌, List, [], ◌∷◌, length, drop, Ok, refl, ap, subst, IfOk, All-nil, Identifier, StatementTree, LabelledStatement, StatementKindTree, NullStatement, AssignmentStatement, CallStatement, ReturnStatement, HaltStatement, GotoStatement, IfStatement, DoStatement, WhileStatement, IterateStatement, CaseStatement, ElseTree, NoElse, ElseStatement, StatementTrees, NoStatements, MoreStatements, DeclarationTree, DeclareTree, ProcedureTree, DeclarationTrees, NoDeclarations, MoreDeclarations, ModuleTree, Body, Names, numbered_from, into_list, body_after_block, with_procedure, labels_of, TypedStatements, TypedList, TypedModule, LabelsOf, JumpsStayInElse, JumpsStayInStatements, JumpsStayInList, LabelsStand, ListsStandInElse, ListsStandInStatements, ListsStandInCases, ListStands, BodyIsSound, JumpsAreSound, Checked, arguments, Block, Progress, with_here, value, iteration, labels_before, declare_labels, without_label, places_from, list_of, open_procedure, own_block, parameter_objects, check_body, close_procedure, inner_block, entered, left, kind, labelled, alone, else_part, cases, statements, declaration, declarations, module_block, at_the_beginning, typing_of}
+use Rattle.typing.proofs.Prelude.{◌≡◌, ℕ, ◌+◌, List, [], ◌∷◌, length, drop, Ok, refl, ap, subst, IfOk, All-nil, Identifier, StatementTree, LabelledStatement, StatementKindTree, NullStatement, AssignmentStatement, CallStatement, ReturnStatement, HaltStatement, GotoStatement, IfStatement, DoStatement, LoopStatement, CaseStatement, ElseTree, NoElse, ElseStatement, StatementTrees, NoStatements, MoreStatements, DeclarationTree, DeclareTree, ProcedureTree, DeclarationTrees, NoDeclarations, MoreDeclarations, ModuleTree, Body, Names, numbered_from, into_list, body_after_block, with_procedure, labels_of, TypedStatements, TypedList, TypedModule, LabelsOf, JumpsStayInElse, JumpsStayInStatements, JumpsStayInList, LabelsStand, ListsStandInElse, ListsStandInStatements, ListsStandInCases, ListStands, BodyIsSound, JumpsAreSound, Checked, arguments, Block, Progress, with_here, value, loop_head, labels_before, declare_labels, without_label, places_from, list_of, open_procedure, own_block, parameter_objects, check_body, close_procedure, inner_block, entered, left, kind, labelled, alone, else_part, cases, statements, declaration, declarations, module_block, at_the_beginning, typing_of}
 use Rattle.typing.proofs.Steps.{then_checks, then_any}
 use Rattle.typing.proofs.Jumps.KnownLabels.{AreAround, none_around, around_entered}
 use Rattle.typing.proofs.Jumps.LabelPlaces.{labels_stand, list_count, jumps_after_labels, lists_after_labels, labels_differ}
-use Rattle.typing.proofs.PartsWithoutStatements.{AreSound, IsAt, IsDone, value_is, assignment_is, call_is, return_is, goto_is, iteration_is}
+use Rattle.typing.proofs.PartsWithoutStatements.{AreSound, IsAt, IsDone, value_is, assignment_is, call_is, return_is, goto_is, head_is}
 use Rattle.typing.proofs.Declarations.{declare_labels_is, declare_elements_is, open_procedure_is, close_procedure_is}
 
 -- the statements of a list from one on, whose next label has this number
@@ -116,16 +116,10 @@ mutual
       start known at_start))
       (λ typed done.
       (record { jumps = done.jumps; stands = done.stands; is_no_label = tt }, left_is typed.1 done.after)))
-  kind_is block (WhileStatement place condition body) progress are at =
-      then_checks _ _ (value condition progress) _ (value_is condition progress at) (λ tested at_body.
-      then_checks _ _ (list_of body (λ label. statements block body label) tested.1) _
-      (list_is body (λ label. statements block body label) tested.1 are at_body
-      (λ inside tables label start known at_start. statements_is block body label start known at_start))
-      (λ typed done. (record { jumps = done.jumps; stands = done.stands; is_no_label = tt }, done.after)))
-  kind_is block (IterateStatement place head body) progress are at =
-      then_checks _ _ (iteration head progress) _ (iteration_is head progress at) (λ counted at_body.
-      then_checks _ _ (list_of body (λ label. statements block body label) counted.1) _
-      (list_is body (λ label. statements block body label) counted.1 are at_body
+  kind_is block (LoopStatement place head body) progress are at =
+      then_checks _ _ (loop_head head progress) _ (head_is head progress at) (λ headed at_body.
+      then_checks _ _ (list_of body (λ label. statements block body label) headed.1) _
+      (list_is body (λ label. statements block body label) headed.1 are at_body
       (λ inside tables label start known at_start. statements_is block body label start known at_start))
       (λ typed done. (record { jumps = done.jumps; stands = done.stands; is_no_label = tt }, done.after)))
   kind_is block (CaseStatement place choice body) progress are at =

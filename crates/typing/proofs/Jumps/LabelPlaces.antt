@@ -1,7 +1,8 @@
 -- The labels of a list stand where its places say, and no two labels of a module have the same number.
-use Rattle.typing.proofs.Prelude.{◌≡◌, ◌≢◌, ℕ, zero, suc, ◌+◌, ◌-◌, ◌≤◌, min, List, [], ◌∷◌, ◌++◌, length, take, drop, flat_map, slice_set, Option, None, Some, Ok, Err, refl, ap, sym, subst, ◌∙◌, append-nil, arith, length-append, IfOk, AllPairs, is_none, nat_le, not, ◌||◌, ◌==◌, AllByRecursion, flat_map-append, All-from_recursion, AllPairs-cons, ScalarType, Identifier, Place, ExpressionTree, ReferenceTree, IterationTree, StatementTree, LabelledStatement, StatementKindTree, NullStatement, AssignmentStatement, CallStatement, ReturnStatement, HaltStatement, GotoStatement, IfStatement, DoStatement, WhileStatement, IterateStatement, CaseStatement, ElseTree, NoElse, ElseStatement, StatementTrees, NoStatements, MoreStatements, ItemTree, ElementTree, LiterallyElement, ItemElement, HeadingTree, DeclarationTree, DeclareTree, ProcedureTree, DeclarationTrees, NoDeclarations, MoreDeclarations, ModuleTree, Binding, Declared, BuiltInName, Move, Procedure, Label, jump_of, Here, Body, into_list, into_body, after_body, with_object, with_procedure, with_parameter, with_label, is_declared_again, is_parameter_again, is_label_again, labels_of, declared_by, OBJECT_LIMIT, FRAME_LIMIT, PARAMETER_LIMIT, TypedArguments, NoTyped, TypedStatement, LabelStatement, TypedStatements, TypedList, TypedProcedure, TypedModule, Constants, LabelsOf, JumpsStayInStatements, LabelsStand, IsNoLabel, ListsStandInStatements, labels_in, labels_in_else, labels_in_statements, labels_in_list, labels_in_procedure, labels_in_module, DeclaredTwice, ArgumentCount, CallOfTyped, NestedProcedure, ExternalContents, TooLarge, Checked, require, Known, Given, place_of, count_of_given, bound, procedure_of, call_arguments, expression, arguments, Owner, TheModule, OfProcedure, Block, Progress, is_external, is_reentrant, declares_parameter, TypedItem, declare_names, place_of_item, object_named, with_typed_object, with_objects, typed_item, size_of_item, declare_item, declare_definition, declare_element, declare_elements, with_here, with_constants, value, destinations, assignment, moved, call_bound, call, return_with, return_from, goto_bound, goto, counter_bound, step, iteration, declare_labels, without_label, places_of, places_from, after_labels, list_of, declare_parameters, no_more_parameters, check_visibility, check_reentrant, parameter_types, procedure_with, empty_list, open_procedure, own_block, parameter_objects, check_body, close_procedure, inner_block, entered, kind, labelled, alone, else_part, cases, statements, declaration, declarations, module_block, at_the_beginning, typing_of}
+use Rattle.typing.proofs.Prelude.{◌≡◌, ◌≢◌, ℕ, zero, suc, ◌+◌, ◌-◌, ◌≤◌, min, List, [], ◌∷◌, ◌++◌, length, take, drop, flat_map, slice_set, Option, None, Some, Ok, Err, refl, ap, sym, subst, ◌∙◌, append-nil, arith, length-append, IfOk, AllPairs, is_none, nat_le, not, ◌||◌, ◌==◌, AllByRecursion, flat_map-append, All-from_recursion, AllPairs-cons, ScalarType, Identifier, Place, ExpressionTree, ReferenceTree, LoopHeadTree, StatementTree, LabelledStatement, StatementKindTree, NullStatement, AssignmentStatement, CallStatement, ReturnStatement, HaltStatement, GotoStatement, IfStatement, DoStatement, LoopStatement, CaseStatement, ElseTree, NoElse, ElseStatement, StatementTrees, NoStatements, MoreStatements, ItemTree, ElementTree, LiterallyElement, ItemElement, HeadingTree, DeclarationTree, DeclareTree, ProcedureTree, DeclarationTrees, NoDeclarations, MoreDeclarations, ModuleTree, Binding, Declared, BuiltInName, Move, Procedure, Label, jump_of, Here, Body, into_list, into_body, after_body, with_object, with_procedure, with_parameter, with_label, is_declared_again, is_parameter_again, is_label_again, labels_of, declared_by, OBJECT_LIMIT, FRAME_LIMIT, PARAMETER_LIMIT, TypedArguments, NoTyped, TypedStatement, LabelStatement, TypedStatements, TypedList, TypedProcedure, TypedModule, Constants, LabelsOf, JumpsStayInStatements, LabelsStand, IsNoLabel, ListsStandInStatements, labels_in, labels_in_else, labels_in_statements, labels_in_list, labels_in_procedure, labels_in_module, DeclaredTwice, ArgumentCount, CallOfTyped, NestedProcedure, ExternalContents, TooLarge, Checked, require, Known, Given, place_of, count_of_given, bound, procedure_of, call_arguments, expression, arguments, Owner, TheModule, OfProcedure, Block, Progress, is_external, is_reentrant, declares_parameter, TypedItem, declare_names, place_of_item, object_named, with_typed_object, with_objects, typed_item, size_of_item, declare_item, declare_definition, declare_element, declare_elements, with_here, with_constants, value, destinations, assignment, moved, call_bound, call, return_with, return_from, goto_bound, goto, loop_head, declare_labels, without_label, places_of, places_from, after_labels, list_of, declare_parameters, no_more_parameters, check_visibility, check_reentrant, parameter_types, procedure_with, empty_list, open_procedure, own_block, parameter_objects, check_body, close_procedure, inner_block, entered, kind, labelled, alone, else_part, cases, statements, declaration, declarations, module_block, at_the_beginning, typing_of}
 use Rattle.typed_trees.specs.TypedTrees.{MoreArguments, MoreStatements as MoreTyped}
 use Rattle.typing.proofs.Steps.{then_checks, then_any}
+use Rattle.typing.proofs.Heads.{head_keeps}
 
 stand_after : (label place : ℕ) (places : List ℕ) (statement : TypedStatement) (others : TypedStatements)
     → IsNoLabel statement → LabelsStand label (place + 1) places others
@@ -227,21 +228,12 @@ module _ (n : ℕ) where
       (goto_has_none (place_of label) (jump_of progress.known.here label.name))
       (λ typed none. without (labels_in typed) progress.known none)
 
-  step_adds : (tree : Option ExpressionTree) (progress : Progress)
-      → IfOk (step tree progress) (λ typed. AddsNone progress typed.1)
-  step_adds None progress = stays progress.known
-  step_adds (Some tree) progress =
-      then_checks _ _ (value tree progress) _ (value_adds tree progress) (λ typed adds. adds)
-
-  iteration_adds : (tree : IterationTree) (progress : Progress)
-      → IfOk (iteration tree progress) (λ typed. AddsNone progress typed.1)
-  iteration_adds tree progress =
-      then_any _ (bound progress.known tree.variable) _ (λ binding.
-      then_any _ (counter_bound progress.known binding tree.variable) _ (λ counter.
-      then_checks _ _ (value tree.first progress) _ (value_adds tree.first progress) (λ first one.
-      then_checks _ _ (value tree.last first.1) _ (value_adds tree.last first.1) (λ last two.
-      then_checks _ _ (step tree.step last.1) _ (step_adds tree.step last.1) (λ by three.
-      omega (arith, one, two, three))))))
+  head_adds : (head : LoopHeadTree) (progress : Progress)
+      → IfOk (loop_head head progress) (λ typed. AddsNone progress typed.1)
+  head_adds head progress =
+      head_keeps (AddsNone progress)
+      (λ tree before so_far. then_any _ (expression before.known tree before.constants) _ (λ typed. so_far))
+      head progress (stays progress.known)
 
   -- names and labels that are declared leave the counter of labels as it was
   declare_labels_keeps : (labels : List Identifier) (here : Here)
@@ -432,18 +424,12 @@ module _ (n : ℕ) where
         (list_adds body (λ label. statements (inner_block block) body label) opened
         (λ label start. statements_add (inner_block block) body label start)) (λ typed one.
         then_adds progress.known opened.known typed.1.known (labels_in_list typed.0) first one))
-    kind_adds block (WhileStatement place condition body) progress =
-        then_checks _ _ (value condition progress) _ (value_adds condition progress) (λ tested first.
-        then_checks _ _ (list_of body (λ label. statements block body label) tested.1) _
-        (list_adds body (λ label. statements block body label) tested.1
+    kind_adds block (LoopStatement place head body) progress =
+        then_checks _ _ (loop_head head progress) _ (head_adds head progress) (λ headed first.
+        then_checks _ _ (list_of body (λ label. statements block body label) headed.1) _
+        (list_adds body (λ label. statements block body label) headed.1
         (λ label start. statements_add block body label start)) (λ typed one.
-        then_adds progress.known tested.1.known typed.1.known (labels_in_list typed.0) first one))
-    kind_adds block (IterateStatement place head body) progress =
-        then_checks _ _ (iteration head progress) _ (iteration_adds head progress) (λ counted first.
-        then_checks _ _ (list_of body (λ label. statements block body label) counted.1) _
-        (list_adds body (λ label. statements block body label) counted.1
-        (λ label start. statements_add block body label start)) (λ typed one.
-        then_adds progress.known counted.1.known typed.1.known (labels_in_list typed.0) first one))
+        then_adds progress.known headed.1.known typed.1.known (labels_in_list typed.0) first one))
     kind_adds block (CaseStatement place choice body) progress =
         then_checks _ _ (value choice progress) _ (value_adds choice progress) (λ chosen first.
         then_checks _ _ (cases block body chosen.1) _ (cases_add block body chosen.1) (λ typed one.

@@ -8,7 +8,7 @@ use Rattle.typing.proofs.Names.Meeting.{Meets, Never, meets_ok, meets_fault, mee
 use Rattle.typing.proofs.Names.ChecksWithoutNames.{not_of_names, objects-other, visibility-other, reentrant-other, parameters-other, body-other}
 use Rattle.typing.proofs.Names.Bound.{Alike, IsWrong, NoFault, Walks, events_join, first_blamed, no_first, see_all_append, after_walks, declared-alone, declared-once, declared-walks, walks_as, walks_assoc, walks_in, walks_nothing, walks_ok, walks_on, walks_out, walks_then}
 use Rattle.typing.proofs.Names.KnownItems.{item-finds}
-use Rattle.typing.proofs.Names.Statements.{uses_walk, value-uses, assignment-uses, call-uses, return_from-uses, goto-walks, iteration-uses}
+use Rattle.typing.proofs.Names.Statements.{uses_walk, value-uses, assignment-uses, call-uses, return_from-uses, goto-walks, head-uses}
 
 -- how far a text is
 abbrev here_in : Progress → Here
@@ -202,15 +202,10 @@ mutual
       walks_out out_of_block _ (λ done. refl)
       (list-walks body (λ label. statements (inner_block block) body label) opened
       (λ label inside. statements-walk (inner_block block) body label inside))))
-  kind-walks block (trees.WhileStatement place condition body) progress =
-      walks_then (uses_walk progress _ _ _ (value-uses condition progress)) λ tested.
+  kind-walks block (trees.LoopStatement place head body) progress =
+      walks_then (uses_walk progress _ _ _ (head-uses head progress)) λ headed.
       walks_ok _ (λ done. refl)
-      (list-walks body (λ label. statements block body label) tested.1
-      (λ label inside. statements-walk block body label inside))
-  kind-walks block (trees.IterateStatement place head body) progress =
-      walks_then (uses_walk progress _ _ _ (iteration-uses head progress)) λ counted.
-      walks_ok _ (λ done. refl)
-      (list-walks body (λ label. statements block body label) counted.1
+      (list-walks body (λ label. statements block body label) headed.1
       (λ label inside. statements-walk block body label inside))
   kind-walks block (trees.CaseStatement place choice body) progress =
       walks_then (uses_walk progress _ _ _ (value-uses choice progress)) λ chosen.

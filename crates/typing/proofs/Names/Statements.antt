@@ -1,5 +1,6 @@
 -- What statements need beside the statements in them: their names are known, or one is to blame.
-use Rattle.typing.proofs.Prelude.{◌≡◌, ◌==◌, List, [], ◌∷◌, ◌++◌, Option, None, Some, refl, sym, subst, append_assoc, is_none, flat_map, option_map_or, ScalarType, Identifier, Place, ExpressionTree, ReferenceTree, ArgumentTrees, IterationTree, Binding, Declared, BuiltInName, Move, Procedure, Here, jump_of, uses_of, jumps_to, names_in_expression, names_in_reference, names_in_arguments, names_in_optional, names_in_iteration, TypedStatement, Constants, Known, place_of, count_of_given, Owner, TheModule, OfProcedure, Progress, value, with_constants, destinations, assignment, call_bound, call, return_with, return_from, goto, step, iteration, ArgumentCount, CallOfTyped, CallOfNoProcedure, ReturnMismatch, ReturnOutside, Fault, Checked, members_in_expression, members_in_reference, members_in_arguments, members_in_iteration}
+use Rattle.typing.proofs.Prelude.{◌≡◌, ◌==◌, List, [], ◌∷◌, ◌++◌, Option, None, Some, refl, sym, subst, append_assoc, is_none, flat_map, option_map_or, ScalarType, Identifier, Place, ExpressionTree, ReferenceTree, ArgumentTrees, IterationTree, LoopHeadTree, Binding, Declared, BuiltInName, Move, Procedure, Here, jump_of, uses_of, jumps_to, names_in_expression, names_in_reference, names_in_arguments, names_in_optional, names_in_iteration, names_in_head, TypedStatement, Constants, Known, place_of, count_of_given, Owner, TheModule, OfProcedure, Progress, value, with_constants, destinations, assignment, call_bound, call, return_with, return_from, goto, step, iteration, loop_head, ArgumentCount, CallOfTyped, CallOfNoProcedure, ReturnMismatch, ReturnOutside, Fault, Checked, members_in_expression, members_in_reference, members_in_arguments, members_in_iteration, members_in_head}
+use Rattle.trees.specs.Trees.{WhileHead, CountHead}
 use Rattle.typing.proofs.Names.Meeting.{Meets, meets_ok, meets_fault, meets_then, after_other, before_other, other_required}
 use Rattle.typing.proofs.Names.ChecksWithoutNames.{not_of_names, procedure-other, moved-other, goto-other, counter-other}
 use Rattle.typing.proofs.Names.Bound.{AreKnown, IsUnknown, Walks, names_join, bound-finds}
@@ -135,7 +136,7 @@ step-uses (Some tree) progress =
     before_other (value-uses tree progress) λ typed same.
     meets_ok tt same
 
-pub iteration-uses : (tree : IterationTree) (progress : Progress)
+iteration-uses : (tree : IterationTree) (progress : Progress)
     → Uses progress (names_in_iteration tree) (members_in_iteration tree) (iteration tree progress)
 iteration-uses tree progress =
     let here : Here = progress.known.here in
@@ -162,3 +163,13 @@ iteration-uses tree progress =
     (uses_at_last progress one.1 last others same (value-uses tree.last one.1)) λ two still.
     before_other (uses_at_last progress two.1 by more still (step-uses tree.step two.1)) λ three kept.
     meets_ok tt kept))
+
+-- the head of a loop
+pub head-uses : (head : LoopHeadTree) (progress : Progress)
+    → Uses progress (names_in_head head) (members_in_head head) (loop_head head progress)
+head-uses (WhileHead condition) progress =
+    before_other (value-uses condition progress) λ tested same.
+    meets_ok tt same
+head-uses (CountHead counting) progress =
+    before_other (iteration-uses counting progress) λ counted same.
+    meets_ok tt same

@@ -1,7 +1,8 @@
 -- The parameters of every typed module fit: along the typing of a text.
-use Rattle.typing.proofs.Prelude.{◌≡◌, ℕ, ◌+◌, ◌<◌, true, false, List, [], ◌∷◌, length, Option, Some, None, Ok, refl, ap, sym, subst, ◌∙◌, append-nil, All, not, enumerate_from, option_or, All-from_recursion, ScalarType, Identifier, Place, DeclarationTree, DeclarationTrees, DeclareTree, ElseTree, ExpressionTree, IterationTree, ModuleTree, MoreDeclarations, NoDeclarations, ProcedureTree, ReferenceTree, StatementKindTree, StatementTree, StatementTrees, Here, Names, into_list, is_label_again, out_of_list, with_label, jump_of, labels_of, HasParameters, ParametersFit, TypedList, TypedModule, TypedObject, TypedProcedure, TypedStatements, DeclaredTwice, Block, OfProcedure, Owner, Progress, TheModule, Checked, require, arguments, expression, check_body, own_block, scalar_in_block, scalar_in_declaration, Given, Known, bound, place_of, assignment, call, call_bound, counter_bound, declare_labels, destinations, goto, goto_bound, iteration, labels_before, list_of, return_from, return_with, step, value, with_constants, with_here, without_label, alone, at_the_beginning, cases, declaration, declarations, else_part, entered, inner_block, kind, labelled, left, module_block, module_with, statements, typing_of}
+use Rattle.typing.proofs.Prelude.{◌≡◌, ℕ, ◌+◌, ◌<◌, true, false, List, [], ◌∷◌, length, Option, Some, None, Ok, refl, ap, sym, subst, ◌∙◌, append-nil, All, not, enumerate_from, option_or, All-from_recursion, ScalarType, Identifier, Place, DeclarationTree, DeclarationTrees, DeclareTree, ElseTree, ExpressionTree, LoopHeadTree, ModuleTree, MoreDeclarations, NoDeclarations, ProcedureTree, ReferenceTree, StatementKindTree, StatementTree, StatementTrees, Here, Names, into_list, is_label_again, out_of_list, with_label, jump_of, labels_of, HasParameters, ParametersFit, TypedList, TypedModule, TypedObject, TypedProcedure, TypedStatements, DeclaredTwice, Block, OfProcedure, Owner, Progress, TheModule, Checked, require, arguments, expression, check_body, own_block, scalar_in_block, scalar_in_declaration, Given, Known, bound, place_of, assignment, call, call_bound, declare_labels, destinations, goto, goto_bound, labels_before, list_of, loop_head, return_from, return_with, value, with_constants, with_here, without_label, alone, at_the_beginning, cases, declaration, declarations, else_part, entered, inner_block, kind, labelled, left, module_block, module_with, statements, typing_of}
 use Rattle.trees.specs.Trees as trees
 use Rattle.typing.proofs.Kept.{Gives, gives_after, gives_fault, gives_ok, in_turn, then_more}
+use Rattle.typing.proofs.Heads.{head_follows}
 use Rattle.typing.proofs.Parameters.Closing.{closed_goes, nothing, own_begins, own_stands}
 use Rattle.typing.proofs.Parameters.Elements.{GoesOn, both_more, declare_elements-go, goes_then, may_below, owned_as}
 use Rattle.typing.proofs.Parameters.Grown.{Grown, NoMore, Numbered, Standing, grown_between, grown_more, grown_same, grown_then, standing_after}
@@ -63,20 +64,11 @@ pub goto_same : (label : Identifier) (progress : Progress)
 goto_same label progress =
     gives_after (goto_bound (place_of label) (jump_of progress.known.here label.name)) λ typed. gives_ok refl
 
-step_same : (tree : Option ExpressionTree) (progress : Progress)
-    → Gives (λ found. Same progress found.1) (step tree progress)
-step_same None progress = gives_ok refl
-step_same (Some tree) progress = in_turn (value_same tree progress) λ found same. gives_ok same
-
-pub iteration_same : (tree : IterationTree) (progress : Progress)
-    → Gives (λ found. Same progress found.1) (iteration tree progress)
-iteration_same tree progress =
-    gives_after (bound progress.known tree.variable) λ binding.
-    gives_after (counter_bound progress.known binding tree.variable) λ counter.
-    in_turn (value_same tree.first progress) λ first one.
-    in_turn (value_same tree.last first.1) λ last two.
-    in_turn (step_same tree.step last.1) λ by three.
-    gives_ok (three ∙ two ∙ one)
+pub head_same : (head : LoopHeadTree) (progress : Progress)
+    → Gives (λ found. Same progress found.1) (loop_head head progress)
+head_same head progress =
+    head_follows Same (λ progress. refl) (λ before between after one other. other ∙ one) value_same
+    head progress
 
 -- what a statement gives
 abbrev Grows : {A : Type 0} → Progress → Checked (A × Progress) → Type 0
@@ -163,17 +155,10 @@ mutual
       (grown_between progress (left done.1) refl refl refl refl refl refl refl refl
       (none_below (entered progress))
       (grown_then (none_below (entered progress)) first two))
-  kind_grows block (trees.WhileStatement place condition body) progress stands =
-      in_turn (from_same (value_same condition progress)) λ tested one.
+  kind_grows block (trees.LoopStatement place head body) progress stands =
+      in_turn (from_same (head_same head progress)) λ headed one.
       in_turn
-      (list_grows block.owner body (λ label. statements block body label) tested.1
-      (after_none block.owner stands one)
-      (λ label inside s. statements_grow block body label inside s)) λ done two.
-      gives_ok (grown_then (none_below progress) one two)
-  kind_grows block (trees.IterateStatement place head body) progress stands =
-      in_turn (from_same (iteration_same head progress)) λ counted one.
-      in_turn
-      (list_grows block.owner body (λ label. statements block body label) counted.1
+      (list_grows block.owner body (λ label. statements block body label) headed.1
       (after_none block.owner stands one)
       (λ label inside s. statements_grow block body label inside s)) λ done two.
       gives_ok (grown_then (none_below progress) one two)

@@ -1,12 +1,13 @@
 -- In a typed module the objects with DATA and the constant lists stand among the constants in their order, AT
 -- looks back at objects that have a place, and values have room in their objects.
-use Rattle.typing.proofs.Prelude.{◌≡◌, ℕ, ◌+◌, List, [], ◌∷◌, length, Option, None, Some, Ok, subst, IfOk, is_none, ◌==◌, ScalarType, Identifier, Place, ExpressionTree, ReferenceTree, IterationTree, StatementTree, LabelledStatement, StatementKindTree, NullStatement, AssignmentStatement, CallStatement, ReturnStatement, HaltStatement, GotoStatement, IfStatement, DoStatement, WhileStatement, IterateStatement, CaseStatement, ElseTree, NoElse, ElseStatement, StatementTrees, NoStatements, MoreStatements, DeclarationTree, DeclareTree, ProcedureTree, DeclarationTrees, NoDeclarations, MoreDeclarations, ModuleTree, Binding, Declared, BuiltInName, Move, Procedure, jump_of, into_list, labels_of, TypedObject, TypedStatements, TypedModule, Constants, IsStorable, ArgumentCount, CallOfTyped, Checked, require, Known, Given, place_of, count_of_given, bound, procedure_of, destination_of, call_arguments, expression, given_reference, arguments, Owner, TheModule, OfProcedure, Block, Progress, with_here, with_constants, value, destinations, assignment, moved, call_bound, call, return_with, return_from, goto_bound, goto, counter_bound, step, iteration, labels_before, declare_labels, without_label, list_of, open_procedure, own_block, parameter_objects, check_body, inner_block, entered, kind, labelled, alone, else_part, cases, statements, declaration, declarations, module_block, at_the_beginning, typing_of}
+use Rattle.typing.proofs.Prelude.{◌≡◌, ℕ, ◌+◌, List, [], ◌∷◌, length, Option, None, Some, Ok, subst, IfOk, is_none, ◌==◌, ScalarType, Identifier, Place, ExpressionTree, ReferenceTree, StatementTree, LabelledStatement, StatementKindTree, NullStatement, AssignmentStatement, CallStatement, ReturnStatement, HaltStatement, GotoStatement, IfStatement, DoStatement, LoopStatement, CaseStatement, ElseTree, NoElse, ElseStatement, StatementTrees, NoStatements, MoreStatements, DeclarationTree, DeclareTree, ProcedureTree, DeclarationTrees, NoDeclarations, MoreDeclarations, ModuleTree, Binding, Declared, BuiltInName, Move, Procedure, jump_of, into_list, labels_of, TypedObject, TypedStatements, TypedModule, Constants, IsStorable, ArgumentCount, CallOfTyped, Checked, require, Known, Given, place_of, count_of_given, bound, procedure_of, destination_of, call_arguments, expression, given_reference, arguments, Owner, TheModule, OfProcedure, Block, Progress, with_here, with_constants, value, destinations, assignment, moved, call_bound, call, return_with, return_from, goto_bound, goto, loop_head, labels_before, declare_labels, without_label, list_of, open_procedure, own_block, parameter_objects, check_body, inner_block, entered, kind, labelled, alone, else_part, cases, statements, declaration, declarations, module_block, at_the_beginning, typing_of}
 use Rattle.typing.proofs.Steps.{then_checks, then_any}
+use Rattle.typing.proofs.Heads.{head_keeps}
 use Rattle.typing.proofs.Storage.Storable.{AreStorable, none_yet}
 use Rattle.typing.proofs.Storage.StorableExpressions.{GivenKeeps, call_arguments_is, expression_is, arguments_is, destination_is}
 use Rattle.typing.proofs.Storage.StorableObjects.{StandsSoFar, declare_elements_is, open_procedure_is}
 
--- simple statements, and the heads of loops
+-- simple statements
 value_is : (tree : ExpressionTree) (progress : Progress)
     → StandsSoFar progress → IfOk (value tree progress) (λ typed. StandsSoFar typed.1)
 value_is tree progress so_far =
@@ -78,21 +79,6 @@ goto_is : (label : Identifier) (progress : Progress)
 goto_is label progress so_far =
     then_any _ (goto_bound (place_of label) (jump_of progress.known.here label.name)) _ (λ typed. so_far)
 
-step_is : (tree : Option ExpressionTree) (progress : Progress)
-    → StandsSoFar progress → IfOk (step tree progress) (λ typed. StandsSoFar typed.1)
-step_is None progress so_far = so_far
-step_is (Some tree) progress so_far =
-    then_checks _ _ (value tree progress) _ (value_is tree progress so_far) (λ typed after. after)
-
-iteration_is : (tree : IterationTree) (progress : Progress)
-    → StandsSoFar progress → IfOk (iteration tree progress) (λ typed. StandsSoFar typed.1)
-iteration_is tree progress so_far =
-    then_any _ (bound progress.known tree.variable) _ (λ binding.
-    then_any _ (counter_bound progress.known binding tree.variable) _ (λ counter.
-    then_checks _ _ (value tree.first progress) _ (value_is tree.first progress so_far) (λ first after_first.
-    then_checks _ _ (value tree.last first.1) _ (value_is tree.last first.1 after_first) (λ last after_last.
-    then_checks _ _ (step tree.step last.1) _ (step_is tree.step last.1 after_last) (λ by after. after)))))
-
 -- a list, whose labels have no place among objects and constants
 list_is : (trees : StatementTrees) (typed_from : ℕ → Progress → Checked (TypedStatements × Progress))
     (progress : Progress)
@@ -132,15 +118,11 @@ mutual
       (list_is body (λ label. statements (inner_block block) body label) opened at_body
       (λ label start at_start. statements_is (inner_block block) body label start at_start))
       (λ typed after. after))
-  kind_is block (WhileStatement place condition body) progress so_far =
-      then_checks _ _ (value condition progress) _ (value_is condition progress so_far) (λ tested at_body.
-      then_checks _ _ (list_of body (λ label. statements block body label) tested.1) _
-      (list_is body (λ label. statements block body label) tested.1 at_body
-      (λ label start at_start. statements_is block body label start at_start)) (λ typed after. after))
-  kind_is block (IterateStatement place head body) progress so_far =
-      then_checks _ _ (iteration head progress) _ (iteration_is head progress so_far) (λ counted at_body.
-      then_checks _ _ (list_of body (λ label. statements block body label) counted.1) _
-      (list_is body (λ label. statements block body label) counted.1 at_body
+  kind_is block (LoopStatement place head body) progress so_far =
+      then_checks _ _ (loop_head head progress) _ (head_keeps StandsSoFar value_is head progress so_far)
+      (λ headed at_body.
+      then_checks _ _ (list_of body (λ label. statements block body label) headed.1) _
+      (list_is body (λ label. statements block body label) headed.1 at_body
       (λ label start at_start. statements_is block body label start at_start)) (λ typed after. after))
   kind_is block (CaseStatement place choice body) progress so_far =
       then_checks _ _ (value choice progress) _ (value_is choice progress so_far) (λ chosen at_body.

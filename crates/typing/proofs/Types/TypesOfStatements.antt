@@ -1,7 +1,9 @@
 -- Every typed module is well typed and lists its globals, and its frames fit.
-use Rattle.typing.proofs.Prelude.{◌≡◌, ℕ, ◌+◌, true, false, List, [], ◌∷◌, ◌++◌, length, map, Option, None, Some, Ok, slice_get, slice_set, refl, sym, ap, ◌∙◌, subst, length-append, arith, append_assoc, IfSome, IsSomeAnd, is_none, not, ◌&&◌, ◌==◌, enumerate_from, All-from_recursion, ScalarType, Address, Identifier, Place, ExpressionTree, ReferenceTree, IterationTree, ArgumentTrees, StatementTree, LabelledStatement, StatementKindTree, ElseTree, StatementTrees, HeadingTree, DeclarationTree, DeclareTree, ProcedureTree, DeclarationTrees, NoDeclarations, MoreDeclarations, ModuleTree, Binding, Declared, BuiltInName, Move, Object, Procedure, Label, jump_of, out_of_block, into_list, out_of_list, labels_of, TypedArguments, NoTyped, MoreTyped, TypedObject, TypedStatement, TypedStatements, TypedList, TypedProcedure, TypedModule, Constants, IsScalar, type_of, Within, WithinProcedure, WithinMain, LiesFor, TypesHold, TypesHoldInArguments, TypesHoldInTargets, TypesHoldInHead, TypesHoldIn, TypesHoldInElse, TypesHoldInStatements, TypesHoldInList, TypesHoldInProcedure, IsWellTyped, ArgumentCount, ListsGlobals, FramesFit, Destination, target_of, Known, Given, place_of, count_of_given, bound, is_writable, scalar_of, arguments, Owner, TheModule, OfProcedure, Block, Progress, is_external, is_external_linkage, is_not_based, with_here, with_constants, value, destinations, assignment, moved, call_bound, call, return_with, return_from, goto_bound, goto, Counter, counter_bound, step, iteration, labels_before, after_labels, list_of, parameter_types, procedure_with, parameter_objects, own_block, check_body, close_procedure, inner_block, entered, kind, labelled, alone, else_part, cases, statements, declaration, declarations, module_block, at_the_beginning, module_with, typing_of, Checked, require, and_parts, not-true, some_and}
+use Rattle.typing.proofs.Prelude.{◌≡◌, ℕ, ◌+◌, true, false, List, [], ◌∷◌, ◌++◌, length, map, Option, None, Some, Ok, slice_get, slice_set, refl, sym, ap, ◌∙◌, subst, length-append, arith, append_assoc, IfSome, IsSomeAnd, is_none, not, ◌&&◌, ◌==◌, enumerate_from, All-from_recursion, ScalarType, Address, Identifier, Place, ExpressionTree, ReferenceTree, IterationTree, LoopHeadTree, ArgumentTrees, StatementTree, LabelledStatement, StatementKindTree, ElseTree, StatementTrees, HeadingTree, DeclarationTree, DeclareTree, ProcedureTree, DeclarationTrees, NoDeclarations, MoreDeclarations, ModuleTree, Binding, Declared, BuiltInName, Move, Object, Procedure, Label, jump_of, out_of_block, into_list, out_of_list, labels_of, TypedArguments, NoTyped, MoreTyped, TypedHead, TypedObject, TypedStatement, TypedStatements, TypedList, TypedProcedure, TypedModule, Constants, IsScalar, type_of, Within, WithinProcedure, WithinMain, LiesFor, TypesHold, TypesHoldInArguments, TypesHoldInTargets, TypesHoldInHead, TypesHoldIn, TypesHoldInElse, TypesHoldInStatements, TypesHoldInList, TypesHoldInProcedure, IsWellTyped, ArgumentCount, ListsGlobals, FramesFit, Destination, target_of, Known, Given, place_of, count_of_given, bound, is_writable, scalar_of, arguments, Owner, TheModule, OfProcedure, Block, Progress, is_external, is_external_linkage, is_not_based, with_here, with_constants, value, destinations, assignment, moved, call_bound, call, return_with, return_from, goto_bound, goto, Counter, counter_bound, step, iteration, loop_head, labels_before, after_labels, list_of, parameter_types, procedure_with, parameter_objects, own_block, check_body, close_procedure, inner_block, entered, kind, labelled, alone, else_part, cases, statements, declaration, declarations, module_block, at_the_beginning, module_with, typing_of, Checked, require, and_parts, not-true, some_and}
 use Rattle.trees.specs.Trees as trees
+use Rattle.typed_trees.specs.TypedTrees.{CountHead}
 use Rattle.typing.proofs.Kept.{Gives, then_more, gives_ok, gives_fault, gives_after, in_turn, required, is_found}
+use Rattle.typing.proofs.Heads.{head_gives}
 use Rattle.typing.proofs.NamesBack.{is_bound, Binds}
 use Rattle.typing.proofs.Tables.{Keeps}
 use Rattle.typing.proofs.Types.TypesKept.{Holding, holding_at, holding_more, holding_both, headings}
@@ -136,7 +138,8 @@ module _ (owner : Owner) (is_here : is_external owner ≡ false) where
       gives_ok is
 
   iteration_goes : (tree : IterationTree) (progress : Progress) → StandsAt owner progress
-      → GoesOn owner progress (λ tables. TypesHoldInHead tables within) (iteration tree progress)
+      → GoesOn owner progress (λ tables counted. TypesHoldInHead tables within (CountHead counted))
+      (iteration tree progress)
   iteration_goes tree progress stands =
       in_turn (is_bound progress.known tree.variable) λ binding bound_to.
       in_turn (counter_holds within progress.known binding tree.variable progress.constants
@@ -148,6 +151,14 @@ module _ (owner : Owner) (is_here : is_external owner ≡ false) where
       in_turn (step_goes tree.step last.1 w₂.stands) λ by w₃.
       gives_ok (goes_as (goes_then w₀ (goes_then w₁ (goes_then w₂ w₃)))
       (λ tables says. (says.0, says.1.0, says.1.1.0, says.1.1.1)))
+
+  head_goes : (head : LoopHeadTree) (progress : Progress) → StandsAt owner progress
+      → GoesOn owner progress (λ tables. TypesHoldInHead tables within) (loop_head head progress)
+  head_goes head progress stands =
+      head_gives
+      (λ head (done : TypedHead × Progress).
+      Goes owner progress done.1 (λ tables. TypesHoldInHead tables within done.0))
+      progress (λ tree. value_goes tree progress stands) (λ tree. iteration_goes tree progress stands) head
 
 return_goes : (place : Place) (owner : Owner) (tree : Option ExpressionTree) (progress : Progress)
     → is_external owner ≡ false → StandsAt owner progress
@@ -314,16 +325,10 @@ mutual
       gives_ok
       (goes_as (goes_to (out_of_block done.1.known.here) refl (out_of_block-stands w₂.stands.0)
       (goes_from refl (goes_then w₁ w₂))) (λ tables says. says.1))
-  kind_goes block (trees.WhileStatement place condition body) progress is stands =
-      in_turn (value_goes block.owner is condition progress stands) λ tested w₁.
+  kind_goes block (trees.LoopStatement place head body) progress is stands =
+      in_turn (head_goes block.owner is head progress stands) λ headed w₁.
       in_turn
-      (list_goes block.owner body (λ label. statements block body label) tested.1 w₁.stands
-      (λ label inside s. statements_go block body label inside (may_stand block.owner body is) s)) λ done w₂.
-      gives_ok (goes_as (goes_then w₁ w₂) (λ tables says. says))
-  kind_goes block (trees.IterateStatement place head body) progress is stands =
-      in_turn (iteration_goes block.owner is head progress stands) λ counted w₁.
-      in_turn
-      (list_goes block.owner body (λ label. statements block body label) counted.1 w₁.stands
+      (list_goes block.owner body (λ label. statements block body label) headed.1 w₁.stands
       (λ label inside s. statements_go block body label inside (may_stand block.owner body is) s)) λ done w₂.
       gives_ok (goes_as (goes_then w₁ w₂) (λ tables says. says))
   kind_goes block (trees.CaseStatement place choice body) progress is stands =

@@ -3,14 +3,14 @@ use Rattle.std.specs.Prelude.{◌≡◌, ℕ, [], ◌∷◌, None, Ok, codes, re
 use Rattle.trees.specs.declared.declaration.ScalarType.TheVariants.{Byte, Address}
 use Rattle.trees.specs.declared.expression.BinaryOperator.TheVariants.{Add, Multiply}
 use Rattle.trees.specs.declared.expression.UnaryOperator.TheVariants.{Negate}
-use Rattle.trees.specs.Trees.{ConstantLeaf, LocationLeaf, ListLeaf, UnaryNode as Unary, BinaryNode as Binary, LabelledStatement, NullStatement as Null, AssignmentStatement as AssignmentTree, GotoStatement as Goto, WhileStatement as While, CaseStatement as Case, ModuleTree, DeclareTree}
+use Rattle.trees.specs.Trees.{ConstantLeaf, LocationLeaf, ListLeaf, UnaryNode as Unary, BinaryNode as Binary, LabelledStatement, NullStatement as Null, AssignmentStatement as AssignmentTree, GotoStatement as Goto, CaseStatement as Case, ModuleTree, DeclareTree}
 use Rattle.names.specs.BuiltIns.{built_in_of}
 use Rattle.typing.specs.declared.fault.Cause.TheVariants.{UnknownName, DeclaredTwice, SubscriptMismatch, PortTooLarge, ConstantWritten, MisplacedLabel, UnknownLabel}
 use Rattle.typed_trees.specs.declared.parts.NumberOrigin.TheVariants.{FromDigits}
 use Rattle.typed_trees.specs.TypedTrees.{NumberNode, ValueNode, LocationNode, ListNode, ConversionNode, UnaryNode, BinaryNode, InputNode, TypedReference, PartOf, NoSubscript, At, StoredIn, SentTo, TypedStatement, LabelStatement, NullStatement, AssignmentStatement, GotoStatement, NoStatements, MoreStatements, TypedList, ListOf, TypedModule}
 use Rattle.typing.specs.internal.Checks.{Checked, ◌>>=◌, refuse}
 use Rattle.typing.specs.internal.Typing.{typing_of}
-use Rattle.typing.specs.internal.Samples.{on_line, name_on, number_on, string_on, a_number, plain, at_subscript, value_of, scalar_item, unlabelled, assigns, statements_of, module_of, doing}
+use Rattle.typing.specs.internal.Samples.{on_line, name_on, number_on, string_on, a_number, plain, at_subscript, value_of, scalar_item, unlabelled, assigns, forever, statements_of, module_of, doing}
 
 -- the statements of the main program of a module
 abbrev pub main_of : ModuleTree → Checked TypedList
@@ -121,8 +121,7 @@ port_too_great = refl
 pub jump_into_a_loop :
     main_of (doing (
     unlabelled (Goto (on_line 3) (name_on 3 (codes "L")))
-    ∷ unlabelled (While (on_line 4) (a_number 4 1)
-    (statements_of (LabelledStatement (name_on 5 (codes "L") ∷ []) (Null (on_line 5)) ∷ [])))
+    ∷ unlabelled (forever 4 (LabelledStatement (name_on 5 (codes "L") ∷ []) (Null (on_line 5)) ∷ []))
     ∷ []))
     ≡ refuse UnknownLabel (on_line 3)
 unfolding typing_of built_in_of

@@ -1,7 +1,7 @@
 -- Worked values: conversions taken away, and labels in their places.
 use Rattle.std.specs.Prelude.{◌≡◌, List, [], ◌∷◌, None, Ok, codes, refl}
 use Rattle.trees.specs.declared.expression.BinaryOperator.TheVariants.{Add}
-use Rattle.trees.specs.Trees.{ConstantLeaf, LocationLeaf, ListLeaf, ParenthesizedNode, AssignmentNode, ReferenceTo, MemberOf, BinaryNode as Binary, LabelledStatement, GotoStatement as Goto, IterateStatement as Iterate, IfStatement as If, NoElse, StatementTrees, ModuleTree}
+use Rattle.trees.specs.Trees.{ConstantLeaf, LocationLeaf, ListLeaf, ParenthesizedNode, AssignmentNode, ReferenceTo, MemberOf, BinaryNode as Binary, CountHead, LabelledStatement, GotoStatement as Goto, LoopStatement as Loop, IfStatement as If, NoElse, StatementTrees, ModuleTree}
 use Rattle.names.specs.BuiltIns.{built_in_of}
 use Rattle.typed_trees.specs.TypedTrees.{TypedModule}
 use Rattle.typing.specs.internal.Checks.{Checked, ◌>>=◌}
@@ -44,13 +44,13 @@ sizes_and_members_back = refl
 -- DO A = 1 TO W; L: M: IF A THEN GOTO L; END; W = ((A := 'B') + LOW(.(1, 300)));
 abbrev pub loops : ModuleTree
 loops = doing (
-    unlabelled (Iterate (on_line 3)
-    (record {
+    unlabelled (Loop (on_line 3)
+    (CountHead (record {
       variable = name_on 3 (codes "A");
       first = a_number 3 1;
       last = value_of (plain 3 (codes "W"));
       step = None;
-    })
+    }))
     (statements_of (LabelledStatement (name_on 3 (codes "L") ∷ name_on 3 (codes "M") ∷ [])
     (If (on_line 3) (value_of (plain 3 (codes "A"))) (unlabelled (Goto (on_line 3) (name_on 3 (codes "L"))))
     NoElse)

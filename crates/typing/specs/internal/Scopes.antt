@@ -1,14 +1,14 @@
 -- Worked values: labels of lists in lists, procedures in blocks, and names that hide others.
 use Rattle.std.specs.Prelude.{◌≡◌, ℕ, List, [], ◌∷◌, map, None, Ok, codes, refl}
 use Rattle.trees.specs.declared.declaration.ScalarType.TheVariants.{Byte, Address}
-use Rattle.trees.specs.Trees.{NullStatement as Null, AssignmentStatement as AssignmentTree, WhileStatement as While, DoStatement as Do, CallStatement as Call, GotoStatement as Goto, LabelledStatement, DeclareTree, ModuleTree}
+use Rattle.trees.specs.Trees.{NullStatement as Null, AssignmentStatement as AssignmentTree, DoStatement as Do, CallStatement as Call, GotoStatement as Goto, LabelledStatement, DeclareTree, ModuleTree}
 use Rattle.names.specs.BuiltIns.{built_in_of}
 use Rattle.typing.specs.declared.fault.Cause.TheVariants.{UnknownName, NoVariable, UnknownLabel}
 use Rattle.typed_trees.specs.declared.parts.NumberOrigin.TheVariants.{FromDigits}
-use Rattle.typed_trees.specs.TypedTrees.{NumberNode, ValueNode, ConversionNode, StoredIn, NoArguments, MoreArguments, LabelStatement, NullStatement, AssignmentStatement, CallStatement, DoStatement, WhileStatement, NoStatements, MoreStatements, TypedList, ListOf, TypedProcedure, TypedModule}
+use Rattle.typed_trees.specs.TypedTrees.{NumberNode, ValueNode, ConversionNode, StoredIn, NoArguments, MoreArguments, LabelStatement, NullStatement, AssignmentStatement, CallStatement, DoStatement, NoStatements, MoreStatements, TypedList, ListOf, TypedProcedure, TypedModule}
 use Rattle.typing.specs.internal.Checks.{refuse}
 use Rattle.typing.specs.internal.Typing.{typing_of}
-use Rattle.typing.specs.internal.Samples.{on_line, name_on, a_number, plain, arguments_of, value_of, scalar_item, unlabelled, assigns, statements_of, declarations_of, heading_on, procedure_of, module_of, doing}
+use Rattle.typing.specs.internal.Samples.{on_line, name_on, a_number, plain, arguments_of, value_of, scalar_item, unlabelled, assigns, forever, typed_forever, statements_of, declarations_of, heading_on, procedure_of, module_of, doing}
 use Rattle.typing.specs.internal.Examples.{main_of, whole, does}
 use Rattle.typing.specs.internal.Measures.{measured, calls}
 
@@ -16,16 +16,16 @@ use Rattle.typing.specs.internal.Measures.{measured, calls}
 pub labels_of_lists :
     main_of (module_of [] (
     LabelledStatement (name_on 2 (codes "L") ∷ [])
-    (While (on_line 2) (a_number 2 1) (statements_of (
+    (forever 2 (
     LabelledStatement (name_on 3 (codes "M") ∷ []) (Null (on_line 3))
     ∷ LabelledStatement (name_on 3 (codes "N") ∷ []) (Null (on_line 3))
-    ∷ [])))
+    ∷ []))
     ∷ LabelledStatement (name_on 4 (codes "K") ∷ []) (Null (on_line 4))
     ∷ []))
     ≡ Ok (ListOf 0 (0 ∷ 2 ∷ []) (
     MoreStatements (LabelStatement 0)
     (MoreStatements
-    (WhileStatement (NumberNode Byte 1 FromDigits) (ListOf 2 (0 ∷ 2 ∷ []) (
+    (typed_forever (ListOf 2 (0 ∷ 2 ∷ []) (
     MoreStatements (LabelStatement 2)
     (MoreStatements NullStatement
     (MoreStatements (LabelStatement 3)

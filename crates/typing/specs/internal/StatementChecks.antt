@@ -4,7 +4,7 @@ use Rattle.trees.specs.declared.declaration.ScalarType.{ScalarType}
 use Rattle.trees.specs.declared.declaration.ScalarType.TheVariants.{Address}
 use Rattle.trees.specs.declared.identifier.Identifier.{Identifier}
 use Rattle.trees.specs.declared.identifier.Place.{Place}
-use Rattle.trees.specs.Trees.{ExpressionTree, ReferenceTree, IterationTree, StatementTrees}
+use Rattle.trees.specs.Trees.{ExpressionTree, ReferenceTree, IterationTree, LoopHeadTree, WhileHead, CountHead, StatementTrees}
 use Rattle.names.specs.declared.entity.Binding.{Binding}
 use Rattle.names.specs.declared.entity.Binding.TheVariants.{Declared, BuiltInName}
 use Rattle.names.specs.declared.entity.BuiltIn.TheVariants.{Move}
@@ -13,7 +13,7 @@ use Rattle.names.specs.Environment.{Here, into_list, out_of_list, with_label, is
 use Rattle.names.specs.BuiltIns.{jump_of}
 use Rattle.names.specs.DeclaredNames.{labels_of}
 use Rattle.typing.specs.declared.fault.Cause.TheVariants.{DeclaredTwice, ArgumentCount, CallOfTyped, CallOfNoProcedure, NoVariable, NoCounter, ReturnMismatch, ReturnOutside, MisplacedLabel, UnknownLabel}
-use Rattle.typed_trees.specs.TypedTrees.{TypedExpression, TypedArguments, NoArguments as NoTyped, MoreArguments as MoreTyped, TypedIteration, TypedStatement, CallStatement as TypedCall, MoveStatement, ReturnStatement as TypedReturn, GotoStatement as TypedGoto, TypedStatements, TypedList, ListOf, Constants}
+use Rattle.typed_trees.specs.TypedTrees.{TypedExpression, TypedArguments, NoArguments as NoTyped, MoreArguments as MoreTyped, TypedIteration, TypedHead, WhileHead as TypedWhile, CountHead as TypedCount, TypedStatement, CallStatement as TypedCall, MoveStatement, ReturnStatement as TypedReturn, GotoStatement as TypedGoto, TypedStatements, TypedList, ListOf, Constants}
 use Rattle.typing.specs.internal.Checks.{Checked, ◌>>=◌, refuse, require, found}
 use Rattle.typing.specs.Nodes.{as_type, Destination}
 use Rattle.typing.specs.References.{Known, place_of, scalar_of}
@@ -127,6 +127,15 @@ iteration tree progress = do
   last ← value tree.last first.1
   by ← step tree.step last.1
   Ok (iteration_with counter first.0 last.0 by.0, by.1)
+
+-- the head of a loop
+abbrev pub loop_head : LoopHeadTree → Progress → Checked (TypedHead × Progress)
+loop_head (WhileHead condition) progress = do
+  tested ← value condition progress
+  Ok (TypedWhile tested.0, tested.1)
+loop_head (CountHead counting) progress = do
+  counted ← iteration counting progress
+  Ok (TypedCount counted.0, counted.1)
 
 -- labels differ from each other and from what their body declares
 abbrev pub declare_labels : List Identifier → Here → Checked Here

@@ -1,14 +1,14 @@
 -- The typing of a module, by functions. If it has none, the answer is the first fault in its text; `ModuleTyping` and
 -- `ModuleFault` of `typing_rules` say the same by rules.
 use Rattle.std.specs.Prelude.{ℕ, ◌+◌, length, Ok}
-use Rattle.trees.specs.Trees.{StatementTree, LabelledStatement, StatementKindTree, NullStatement, AssignmentStatement, CallStatement, ReturnStatement, HaltStatement, GotoStatement, IfStatement, DoStatement, WhileStatement, IterateStatement, CaseStatement, ElseTree, NoElse, ElseStatement, StatementTrees, NoStatements, MoreStatements, DeclarationTree, DeclareTree, ProcedureTree, DeclarationTrees, NoDeclarations, MoreDeclarations, ModuleTree}
-use Rattle.typed_trees.specs.TypedTrees.{TypedStatement, NullStatement as TypedNull, HaltStatement as TypedHalt, IfStatement as TypedIf, DoStatement as TypedDo, WhileStatement as TypedWhile, IterateStatement as TypedIterate, CaseStatement as TypedCase, TypedElse, NoElse as NoTypedElse, ElseStatement as TypedElseStatement, TypedStatements, NoStatements as NoTyped, MoreStatements as MoreTyped, TypedModule}
+use Rattle.trees.specs.Trees.{StatementTree, LabelledStatement, StatementKindTree, NullStatement, AssignmentStatement, CallStatement, ReturnStatement, HaltStatement, GotoStatement, IfStatement, DoStatement, LoopStatement, CaseStatement, ElseTree, NoElse, ElseStatement, StatementTrees, NoStatements, MoreStatements, DeclarationTree, DeclareTree, ProcedureTree, DeclarationTrees, NoDeclarations, MoreDeclarations, ModuleTree}
+use Rattle.typed_trees.specs.TypedTrees.{TypedStatement, NullStatement as TypedNull, HaltStatement as TypedHalt, IfStatement as TypedIf, DoStatement as TypedDo, LoopStatement as TypedLoop, CaseStatement as TypedCase, TypedElse, NoElse as NoTypedElse, ElseStatement as TypedElseStatement, TypedStatements, NoStatements as NoTyped, MoreStatements as MoreTyped, TypedModule}
 use Rattle.typing.specs.internal.Checks.{Checked, ◌>>=◌}
 use Rattle.typing.specs.internal.Expressions.{arguments}
 use Rattle.typing.specs.Blocks.{Block, Progress}
 use Rattle.typing.specs.internal.ItemChecks.{declare_elements}
 use Rattle.typing.specs.Statements.{with_here, labels_before, after_labels}
-use Rattle.typing.specs.internal.StatementChecks.{value, assignment, call, return_from, goto, iteration, declare_labels, without_label, list_of}
+use Rattle.typing.specs.internal.StatementChecks.{value, assignment, call, return_from, goto, loop_head, declare_labels, without_label, list_of}
 use Rattle.typing.specs.internal.ProcedureChecks.{open_procedure, parameter_objects, check_body}
 use Rattle.typing.specs.Procedures.{own_block, close_procedure}
 use Rattle.typing.specs.Modules.{inner_block, entered, left, module_block, at_the_beginning, module_with}
@@ -32,14 +32,10 @@ abbrev mutual
     opened ← declarations (inner_block block) declared (entered progress)
     typed ← list_of body (λ label. statements (inner_block block) body label) opened
     Ok (TypedDo typed.0, left typed.1)
-  kind block (WhileStatement place condition body) progress = do
-    tested ← value condition progress
-    typed ← list_of body (λ label. statements block body label) tested.1
-    Ok (TypedWhile tested.0 typed.0, typed.1)
-  kind block (IterateStatement place head body) progress = do
-    counted ← iteration head progress
-    typed ← list_of body (λ label. statements block body label) counted.1
-    Ok (TypedIterate counted.0 typed.0, typed.1)
+  kind block (LoopStatement place head body) progress = do
+    headed ← loop_head head progress
+    typed ← list_of body (λ label. statements block body label) headed.1
+    Ok (TypedLoop headed.0 typed.0, typed.1)
   kind block (CaseStatement place choice body) progress = do
     chosen ← value choice progress
     typed ← cases block body chosen.1

@@ -6,7 +6,7 @@ use Rattle.std.specs.Option.{option_map_or}
 use Rattle.trees.specs.declared.identifier.Identifier.{Identifier}
 use Rattle.trees.specs.declared.identifier.Place.{Place}
 use Rattle.trees.specs.Trees as trees
-use Rattle.trees.specs.Trees.{ConstantTree, NumberConstant, StringConstant, ExpressionTree, ReferenceTree, ReferenceTo, MemberTree, NoMember, MemberOf, ArgumentTrees, NoArguments, MoreArguments, IterationTree, StatementTree, LabelledStatement, StatementKindTree, ElseTree, StatementTrees, DeclarationTree, DeclareTree, ProcedureTree, DeclarationTrees, NoDeclarations, MoreDeclarations, ModuleTree}
+use Rattle.trees.specs.Trees.{ConstantTree, NumberConstant, StringConstant, ExpressionTree, ReferenceTree, ReferenceTo, MemberTree, NoMember, MemberOf, ArgumentTrees, NoArguments, MoreArguments, IterationTree, LoopHeadTree, WhileHead, CountHead, StatementTree, LabelledStatement, StatementKindTree, ElseTree, StatementTrees, DeclarationTree, DeclareTree, ProcedureTree, DeclarationTrees, NoDeclarations, MoreDeclarations, ModuleTree}
 use Rattle.typed_trees.specs.declared.parts.Measure.{Measure}
 use Rattle.typed_trees.specs.declared.parts.Measure.TheVariants.{Length, Last, Size}
 use Rattle.typed_trees.specs.declared.parts.ShiftFunction.{ShiftFunction}
@@ -17,7 +17,7 @@ use Rattle.typed_trees.specs.TypedTrees as typed
 use Rattle.typed_trees.specs.declared.parts.NumberOrigin.TheVariants.{FromDigits, FromString, FromMeasure}
 use Rattle.typed_trees.specs.declared.parts.NumberOrigin.{NumberOrigin}
 use Rattle.typed_trees.specs.declared.parts.TypedMember.{TypedMember}
-use Rattle.typed_trees.specs.TypedTrees.{TypedExpression, TypedReference, PartOf, Subscript, NoSubscript, At, TypedTarget, StoredIn, SentTo, TypedArguments, TypedIteration, TypedStatement, LabelStatement, MoveStatement, TypedElse, TypedStatements, TypedList, ListOf, TypedObject, TypedProcedure, TypedModule}
+use Rattle.typed_trees.specs.TypedTrees.{TypedExpression, TypedReference, PartOf, Subscript, NoSubscript, At, TypedTarget, StoredIn, SentTo, TypedArguments, TypedIteration, TypedHead, WhileHead as TypedWhile, CountHead as TypedCount, TypedStatement, LabelStatement, MoveStatement, TypedElse, TypedStatements, TypedList, ListOf, TypedObject, TypedProcedure, TypedModule}
 use Rattle.typing.specs.Constants.{number_of_characters, bytes_of_constants}
 use Rattle.typing.specs.References.{members_of}
 
@@ -76,6 +76,10 @@ plain_iteration head = record {
   step = option_map plain_expression head.step;
 }
 
+abbrev pub plain_head : LoopHeadTree → LoopHeadTree
+plain_head (WhileHead condition) = WhileHead (plain_expression condition)
+plain_head (CountHead iteration) = CountHead (plain_iteration iteration)
+
 abbrev pub without_names : List Identifier → List Identifier
 without_names labels = map (λ (label : Identifier). nameless) labels
 
@@ -97,10 +101,8 @@ abbrev mutual
       trees.IfStatement nowhere (plain_expression condition) (plain_statement body) (plain_else otherwise)
   plain_kind (trees.DoStatement place declared body) =
       trees.DoStatement nowhere NoDeclarations (plain_statements body)
-  plain_kind (trees.WhileStatement place condition body) =
-      trees.WhileStatement nowhere (plain_expression condition) (plain_statements body)
-  plain_kind (trees.IterateStatement place head body) =
-      trees.IterateStatement nowhere (plain_iteration head) (plain_statements body)
+  plain_kind (trees.LoopStatement place head body) =
+      trees.LoopStatement nowhere (plain_head head) (plain_statements body)
   plain_kind (trees.CaseStatement place choice body) =
       trees.CaseStatement nowhere (plain_expression choice) (plain_statements body)
 
@@ -128,8 +130,7 @@ abbrev mutual
   bodies_in_kind (trees.IfStatement place condition body otherwise) =
       bodies_in_statement body ++ bodies_in_else otherwise
   bodies_in_kind (trees.DoStatement place declared body) = bodies_in declared ++ bodies_in_statements body
-  bodies_in_kind (trees.WhileStatement place condition body) = bodies_in_statements body
-  bodies_in_kind (trees.IterateStatement place head body) = bodies_in_statements body
+  bodies_in_kind (trees.LoopStatement place head body) = bodies_in_statements body
   bodies_in_kind (trees.CaseStatement place choice body) = bodies_in_statements body
 
   pub bodies_in_else : ElseTree → List StatementTrees
@@ -267,6 +268,10 @@ untyped_iteration tables head = record {
   step = option_map (untyped_expression tables) head.step;
 }
 
+abbrev pub untyped_head : TypedModule → TypedHead → LoopHeadTree
+untyped_head tables (TypedWhile condition) = WhileHead (untyped_expression tables condition)
+untyped_head tables (TypedCount iteration) = CountHead (untyped_iteration tables iteration)
+
 abbrev mutual
   pub untyped_kind : TypedModule → TypedStatement → StatementKindTree
   untyped_kind tables (LabelStatement label) = trees.NullStatement nowhere
@@ -289,10 +294,8 @@ abbrev mutual
       (LabelledStatement [] (untyped_kind tables body)) (untyped_else tables otherwise)
   untyped_kind tables (typed.DoStatement body) =
       trees.DoStatement nowhere NoDeclarations (untyped_list tables body)
-  untyped_kind tables (typed.WhileStatement condition body) =
-      trees.WhileStatement nowhere (untyped_expression tables condition) (untyped_list tables body)
-  untyped_kind tables (typed.IterateStatement head body) =
-      trees.IterateStatement nowhere (untyped_iteration tables head) (untyped_list tables body)
+  untyped_kind tables (typed.LoopStatement head body) =
+      trees.LoopStatement nowhere (untyped_head tables head) (untyped_list tables body)
   untyped_kind tables (typed.CaseStatement choice body) =
       trees.CaseStatement nowhere (untyped_expression tables choice) (untyped_statements tables body [])
 

@@ -1,9 +1,9 @@
-use Rattle.stack_compiler.proofs.Prelude.{CodeStatement, List, ◌+◌, ◌-◌, ◌++◌, ◌∷◌, [], Option, length, ap, refl, subst, sym, ◌∙◌, arith, on_ok_weaker, TypedStatement, else_view, expression_view, iteration_view, list_view, statement_view, statements_view, choice_code, count_of_statements, else_code, entries_code, cases_code, expression_code, last_code, list_code, statement_code, closed, opened, opening, passing, site_view}
+use Rattle.stack_compiler.proofs.Prelude.{CodeStatement, List, ◌+◌, ◌++◌, ◌∷◌, [], Option, ap, subst, sym, ◌∙◌, arith, on_ok_weaker, TypedStatement, else_view, expression_view, head_view, list_view, statement_view, statements_view, choice_code, else_code, expression_code, statement_code, closed, opened, opening, site_view}
 use Rattle.stack_compiler.proofs.Counted.{both_numbered, case_numbered, first_numbered, loop_numbered, no_statements_left, so_far_all, so_far_more, statements_left}
 use Rattle.stack_compiler.specs.internal.Counted.{Numbers, numbered_else, numbered_parts, numbered_statements}
-use Rattle.stack_compiler.proofs.Cases.{case_made, case_opened, cases_made, cases_opened}
-use Rattle.stack_compiler.proofs.JumpsFilled.{if_with, if_without, iterate_made, while_made}
-use Rattle.stack_compiler.proofs.StatementLoops.{statement_emitted, statements_count, statements_emitted}
+use Rattle.stack_compiler.proofs.Cases.{case_opened, cases_made, cases_opened}
+use Rattle.stack_compiler.proofs.JumpsFilled.{if_with, if_without, loop_made}
+use Rattle.stack_compiler.proofs.StatementLoops.{statement_emitted, statements_emitted}
 use Rattle.stack_compiler.proofs.statements.+statement.Goals as goal
 
 pub cases_of-returns-clause-code : goal.cases_of-returns-clause-code
@@ -16,21 +16,16 @@ cases_of-returns-clause-code t c =
     (statements_view c.args.statements.now)) c.new-ends.ensures.items)
     (c.close_cases.ensures ∙ ap (λ ends. closed ends c.open_cases.new.cases.items) c.as_slice.ensures.value)
 
-pub emit_iterate-returns-clause-code : goal.emit_iterate-returns-clause-code
-emit_iterate-returns-clause-code t c =
-    let site = site_view c.args.site.now in
-    let head = iteration_view c.args.turns.now.head in
-    let start = c.next_place-start.result in
-    let tested = passing c.emit-2.new.code.items start ++ last_code site head in
-    iterate_made site head (list_view c.args.turns.now.body)
-    c.args.code.now.items c.emit_first.new.code.items c.emit.new.code.items c.emit_list.new.code.items
-    c.emit_stepping.new.code.items c.emit-2.new.code.items (passing c.emit-2.new.code.items start) tested
-    c.emit_test.new.code.items c.close_jump_unless.new.code.items start c.next_place-leave.result
-    (length tested - (start + 1))
-    c.in_ok-emit_first.ensures c.next_place-start.ensures c.in_ok-emit.ensures c.in_ok-emit_list.ensures.code
-    c.in_ok-emit_stepping.ensures
-    c.next_place-leave.ensures c.in_ok-emit-2.ensures refl refl refl
-    c.in_ok-emit_test.ensures c.close_jump_unless.ensures
+pub emit_loop-returns-clause-code : goal.emit_loop-returns-clause-code
+emit_loop-returns-clause-code t c =
+    on_ok_weaker c.emit_turn_end.result
+    (λ made.
+    made
+    ∙ loop_made (site_view c.args.site.now) (head_view c.args.turns.now.head)
+    (list_view c.args.turns.now.body) c.args.code.now.items c.emit_first.new.code.items c.emit.new.code.items c.emit_list.new.code.items
+    c.next_place-start.result c.in_ok-emit_first.ensures c.next_place-start.ensures c.in_ok-emit.ensures
+    c.in_ok-emit_list.ensures.code)
+    c.emit_turn_end.ensures
 
 pub emit_statements-loop-statement-preserved : goal.emit_statements-loop-statement-preserved
 emit_statements-loop-statement-preserved t c = (
@@ -56,18 +51,6 @@ emit_statements-returns-clause-numbers t c = record {
       (c.loop-statement.invariant.1 procedures)
       (no_statements_left c.args.statements.now c.loop-statement.statement-index (omega arith));
 }
-
-pub emit_while-returns-clause-code : goal.emit_while-returns-clause-code
-emit_while-returns-clause-code t c =
-    on_ok_weaker c.emit_loop_back.result
-    (while_made c.args.code.now.items c.emit.new.code.items c.emit_list.new.code.items
-    c.close_jump.new.code.items c.emit_expression.new.code.items
-    c.emit_loop_back.new.code.items (list_code (site_view c.args.site.now) (list_view c.args.turns.now.body))
-    (expression_code (site_view c.args.site.now) (expression_view c.args.turns.now.condition))
-    c.next_place-start.result (length c.emit_expression.new.code.items - (c.next_place-start.result + 1))
-    c.next_place-start.ensures c.in_ok-emit.ensures c.in_ok-emit_list.ensures.code c.close_jump.ensures
-    c.in_ok-emit_expression.ensures refl)
-    c.emit_loop_back.ensures
 
 pub emit_if-returns-in_ok-emit_statement-in-Some-clause-code : goal.emit_if-returns-in_ok-emit_statement-in-Some-clause-code
 emit_if-returns-in_ok-emit_statement-in-Some-clause-code t c =
@@ -130,17 +113,12 @@ open_cases-returns-clause-numbers t c = record {
       (no_statements_left c.args.statements.now c.loop-entry.entry (omega arith));
 }
 
-pub emit_while-returns-clause-numbers : goal.emit_while-returns-clause-numbers
-emit_while-returns-clause-numbers t c =
-    on_ok_weaker c.emit_loop_back.result
+pub emit_loop-returns-clause-numbers : goal.emit_loop-returns-clause-numbers
+emit_loop-returns-clause-numbers t c =
+    on_ok_weaker c.emit_turn_end.result
     (λ done. loop_numbered _ c.args.marks.now c.emit_list.new.marks c.end_body.new.self
     c.in_ok-emit_list.ensures.numbers c.in_ok-end_body.ensures)
-    c.emit_loop_back.ensures
-
-pub emit_iterate-returns-clause-numbers : goal.emit_iterate-returns-clause-numbers
-emit_iterate-returns-clause-numbers t c =
-    loop_numbered _ c.args.marks.now c.emit_list.new.marks c.end_body.new.self
-    c.in_ok-emit_list.ensures.numbers c.in_ok-end_body.ensures
+    c.emit_turn_end.ensures
 
 pub emit_case-returns-clause-numbers : goal.emit_case-returns-clause-numbers
 emit_case-returns-clause-numbers t c =

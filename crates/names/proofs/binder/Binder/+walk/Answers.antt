@@ -1,6 +1,6 @@
 use Rattle.names.proofs.Prelude.{List, arith, rules, Statement, declaration_tree, declaration_trees, kind_tree, statement_tree, statement_trees, see_cases, see_declaration, see_declarations, see_kind, see_statement, see_statements, gives}
 use Rattle.trees.specs.declared.statement.Declaration.{Declaration}
-use Rattle.names.proofs.TreesOfParts.{if_tree_is, do_tree_is, while_tree_is, iterate_tree_is, case_tree_is, procedure_is}
+use Rattle.names.proofs.TreesOfParts.{if_tree_is, do_tree_is, loop_tree_is, case_tree_is, procedure_is}
 use Rattle.names.proofs.Loops.{goes_on, fails_within, loop_ended, hands_on}
 use Rattle.names.proofs.BindingWalks.{gives_turn, gives_nothing, gives_then, gives_three, fails_then, fails_middle}
 use Rattle.names.proofs.binder.Binder.+walk.Goals as goal
@@ -131,17 +131,11 @@ simple_do-returns-in_err-block t c = grind (arith, fails_middle)
 pub simple_do-returns : goal.simple_do-returns
 simple_do-returns t c = grind (arith, gives_three)
 
-pub do_while-returns-in_err-expression : goal.do_while-returns-in_err-expression
-do_while-returns-in_err-expression t c = grind (arith, fails_then)
+pub do_loop-returns-in_err-head : goal.do_loop-returns-in_err-head
+do_loop-returns-in_err-head t c = grind (arith, fails_then)
 
-pub do_while-returns : goal.do_while-returns
-do_while-returns t c = grind (arith, gives_then)
-
-pub do_iterate-returns-in_err-iteration : goal.do_iterate-returns-in_err-iteration
-do_iterate-returns-in_err-iteration t c = grind (arith, fails_then)
-
-pub do_iterate-returns : goal.do_iterate-returns
-do_iterate-returns t c = grind (arith, gives_then)
+pub do_loop-returns : goal.do_loop-returns
+do_loop-returns t c = grind (arith, gives_then)
 
 pub do_case-returns-in_err-expression : goal.do_case-returns-in_err-expression
 do_case-returns-in_err-expression t c = grind (arith, fails_then)
@@ -197,11 +191,8 @@ kind-returns-in-If t c = grind (arith, if_tree_is)
 pub kind-returns-in-Do : goal.kind-returns-in-Do
 kind-returns-in-Do t c = grind (arith, do_tree_is)
 
-pub kind-returns-in-While : goal.kind-returns-in-While
-kind-returns-in-While t c = grind (arith, while_tree_is)
-
-pub kind-returns-in-Iterate : goal.kind-returns-in-Iterate
-kind-returns-in-Iterate t c = grind (arith, iterate_tree_is)
+pub kind-returns-in-Loop : goal.kind-returns-in-Loop
+kind-returns-in-Loop t c = grind (arith, loop_tree_is)
 
 pub kind-returns-in-Case : goal.kind-returns-in-Case
 kind-returns-in-Case t c = grind (arith, case_tree_is)

@@ -7,7 +7,7 @@ use Rattle.trees.specs.internal.Views.{block_statements, declaration_tree, decla
 use Rattle.names.proofs.TreesOfParts.{procedure_is}
 use Rattle.typing.specs.internal.Untyped.{bodies_in, bodies_in_declaration, bodies_in_statement, bodies_in_statements}
 use Rattle.sources.specs.internal.Counted.{count_of_statement, count_of_statements, counts_of, lines_of_body}
-use Rattle.sources.proofs.LinesCounted.{bodies_ended, bodies_go_on, case_bodies, case_parts, count_ended, count_goes_on, do_bodies, do_parts, iterate_bodies, iterate_parts, procedure_counted, while_bodies, while_parts}
+use Rattle.sources.proofs.LinesCounted.{bodies_ended, bodies_go_on, case_bodies, case_parts, count_ended, count_goes_on, do_bodies, do_parts, loop_bodies, loop_parts, procedure_counted}
 use Rattle.sources.proofs.lines.LineWalk.+walk.Goals as goal
 
 pub statements-loop-statement-preserved : goal.statements-loop-statement-preserved
@@ -75,17 +75,11 @@ kind-returns-in-Do-clause-bodies t c = grind (arith, do_bodies)
 pub kind-returns-in-Do-clause-lines : goal.kind-returns-in-Do-clause-lines
 kind-returns-in-Do-clause-lines t c = grind (arith, do_parts)
 
-pub kind-returns-in-While-clause-bodies : goal.kind-returns-in-While-clause-bodies
-kind-returns-in-While-clause-bodies t c = grind (arith, while_bodies)
+pub kind-returns-in-Loop-clause-bodies : goal.kind-returns-in-Loop-clause-bodies
+kind-returns-in-Loop-clause-bodies t c = grind (arith, loop_bodies)
 
-pub kind-returns-in-While-clause-lines : goal.kind-returns-in-While-clause-lines
-kind-returns-in-While-clause-lines t c = grind (arith, while_parts)
-
-pub kind-returns-in-Iterate-clause-bodies : goal.kind-returns-in-Iterate-clause-bodies
-kind-returns-in-Iterate-clause-bodies t c = grind (arith, iterate_bodies)
-
-pub kind-returns-in-Iterate-clause-lines : goal.kind-returns-in-Iterate-clause-lines
-kind-returns-in-Iterate-clause-lines t c = grind (arith, iterate_parts)
+pub kind-returns-in-Loop-clause-lines : goal.kind-returns-in-Loop-clause-lines
+kind-returns-in-Loop-clause-lines t c = grind (arith, loop_parts)
 
 pub kind-returns-in-Case-clause-bodies : goal.kind-returns-in-Case-clause-bodies
 kind-returns-in-Case-clause-bodies t c = grind (arith, case_bodies)

@@ -1,4 +1,4 @@
-use Rattle.syntax.proofs.Prelude.{not, sym, ◌∙◌, ap, arith, refl, err_from_is_err_and, declare_or, conditional, simple_do, while_do, case_do, iterative_do, procedure}
+use Rattle.syntax.proofs.Prelude.{not, sym, ◌∙◌, ap, arith, refl, err_from_is_err_and, declare_or, conditional, simple_do, case_do, loop_do, procedure}
 use Rattle.syntax.proofs.StatementInsides.{statement_in, declaration_in, statement-deep, declaration-deep, declaration-declares}
 use Rattle.syntax.proofs.StatementLoops.{statements-more, statements-end, statement-smaller, statements-fails, statements-fails_at_end, declarations-more, declarations-end, declaration-smaller, declarations-fails}
 use Rattle.syntax.proofs.ReaderResults.{fails_bind, gives_made}
@@ -77,23 +77,17 @@ take_simple_do-returns t c =
     gives_made _ _ _ _ _ _ c.or_memory.ensures c.simple_do.ensures.view
     (rw (c.in_ok-block.ensures, c.in_ok-take_end_of_do.ensures) refl)
 
-pub take_while-returns : goal.take_while-returns
-unfolding while_do
-take_while-returns t c =
-    gives_made _ _ _ _ _ _ c.or_memory.ensures c.do_while.ensures.view
-    (grind arith)
-
 pub take_case-returns : goal.take_case-returns
 unfolding case_do
 take_case-returns t c =
     gives_made _ _ _ _ _ _ c.or_memory.ensures c.do_case.ensures.view
     (grind arith)
 
-pub take_iterative_do-returns : goal.take_iterative_do-returns
-unfolding iterative_do
-take_iterative_do-returns t c =
-    gives_made _ _ _ _ _ _ c.or_memory.ensures c.iterative_do.ensures.view
-    (rw (c.in_ok-iteration.ensures, c.in_ok-body.ensures) refl)
+pub take_loop-returns : goal.take_loop-returns
+unfolding loop_do
+take_loop-returns t c =
+    gives_made _ _ _ _ _ _ c.or_memory.ensures c.do_loop.ensures.view
+    (rw (c.in_ok-head.ensures, c.in_ok-take_semicolon.ensures, c.in_ok-body.ensures) refl)
 
 pub take_procedure-returns : goal.take_procedure-returns
 unfolding procedure

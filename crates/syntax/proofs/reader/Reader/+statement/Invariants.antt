@@ -19,14 +19,11 @@ decreases-take_do l = 10 * l.room + 5
 abbrev pub decreases-take_simple_do : goal.decreases-take_simple_do
 decreases-take_simple_do l = 10 * l.room + 4
 
-abbrev pub decreases-take_while : goal.decreases-take_while
-decreases-take_while l = 10 * l.room + 3
-
 abbrev pub decreases-take_case : goal.decreases-take_case
 decreases-take_case l = 10 * l.room + 3
 
-abbrev pub decreases-take_iterative_do : goal.decreases-take_iterative_do
-decreases-take_iterative_do l = 10 * l.room + 3
+abbrev pub decreases-take_loop : goal.decreases-take_loop
+decreases-take_loop l = 10 * l.room + 3
 
 abbrev pub decreases-take_if : goal.decreases-take_if
 decreases-take_if l = 10 * l.room + 2

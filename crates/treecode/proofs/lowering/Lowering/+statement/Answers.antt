@@ -1,7 +1,7 @@
-use Rattle.treecode.proofs.Prelude.{◌≡◌, List, rules, ap, sym, ◌∙◌, true, arith, CaseStatement, DoStatement, IterateStatement, WhileStatement, expression_view, iteration_view, list_view, statement_view, statements_view, layout_view, StatementNumber, walk_of, items_in, statements_in}
+use Rattle.treecode.proofs.Prelude.{◌≡◌, List, rules, ap, sym, ◌∙◌, true, arith, CaseStatement, DoStatement, LoopStatement, expression_view, head_view, iteration_view, list_view, statement_view, statements_view, layout_view, StatementNumber, walk_of, items_in, statements_in}
 use Rattle.treecode.proofs.PutNodes.{list_put, outside_lists}
 use Rattle.treecode.proofs.StatementLoops.{items_all_added}
-use Rattle.treecode.proofs.StatementViews.{case_returned, case_view, do_returned, do_view, iterate_returned, iterate_view, view_returned, while_returned, while_view}
+use Rattle.treecode.proofs.StatementViews.{case_returned, case_view, do_returned, do_view, iterate_returned, loop_view, view_returned, while_returned}
 use Rattle.treecode.proofs.lowering.Lowering.+statement.Goals as goal
 
 pub choose_case-returns-clause-ok : goal.choose_case-returns-clause-ok
@@ -16,20 +16,22 @@ choose_case-returns-clause-ok t c =
     ∙ c.in_ok-body.ensures.ok)
     c.add.ensures.ok
 
-pub iterate-returns-clause-ok : goal.iterate-returns-clause-ok
-iterate-returns-clause-ok t c =
-    iterate_returned c.add.result (layout_view c.args.storage.now) (walk_of c.args.self.now) _
-    (iteration_view c.args.turns.now.head) (list_view c.args.turns.now.body)
-    (walk_of c.iteration.new.self) c.in_ok-head.head (walk_of c.list.new.self) c.in_ok-body.body
-    c.in_ok-head.ensures.ok c.in_ok-body.ensures.ok c.add.ensures.ok
-
-pub repeat-returns-clause-ok : goal.repeat-returns-clause-ok
-repeat-returns-clause-ok t c =
+pub repeat-returns-in_ok-body-in-While-clause-ok : goal.repeat-returns-in_ok-body-in-While-clause-ok
+repeat-returns-in_ok-body-in-While-clause-ok t c =
     while_returned c.add.result (layout_view c.args.storage.now) (walk_of c.args.self.now) _
-    (expression_view c.args.turns.now.condition) (list_view c.args.turns.now.body)
-    (walk_of c.value.new.self) c.in_ok-condition.condition (walk_of c.list.new.self) c.in_ok-body.body
-    c.ends-reaches_its_end.result c.in_ok-condition.ensures.ok c.in_ok-body.ensures.ok
-    c.ends-reaches_its_end.ensures c.add.ensures.ok
+    c.args.turns.now.head (expression_view c.in-While.condition) (list_view c.args.turns.now.body)
+    (walk_of c.value.new.self) c.in_ok-condition-in-While.condition (walk_of c.list.new.self)
+    c.in_ok-body-in-While.body c.ends-reaches_its_end.result (ap head_view c.in-While.is)
+    c.in_ok-condition-in-While.ensures.ok c.in_ok-body-in-While.ensures.ok c.ends-reaches_its_end.ensures
+    c.add.ensures.ok
+
+pub repeat-returns-in_ok-body-in-Count-clause-ok : goal.repeat-returns-in_ok-body-in-Count-clause-ok
+repeat-returns-in_ok-body-in-Count-clause-ok t c =
+    iterate_returned c.add-in-Count.result (layout_view c.args.storage.now) (walk_of c.args.self.now) _
+    c.args.turns.now.head (iteration_view c.in-Count.head) (list_view c.args.turns.now.body)
+    (walk_of c.iteration.new.self) c.in_ok-head-in-Count.head (walk_of c.list-in-Count.new.self)
+    c.in_ok-body-in-Count.body (ap head_view c.in-Count.is) c.in_ok-head-in-Count.ensures.ok
+    c.in_ok-body-in-Count.ensures.ok c.add-in-Count.ensures.ok
 
 pub statement-returns-in_ok-list-in-Do-clause-ok : goal.statement-returns-in_ok-list-in-Do-clause-ok
 statement-returns-in_ok-list-in-Do-clause-ok t c =
@@ -41,29 +43,16 @@ statement-returns-in_ok-list-in-Do-clause-ok t c =
     ∙ ap (λ list. DoStatement (list_view list)) (sym held))
     c.in_ok-list-in-Do.ensures.ok c.add-in-Do.ensures.ok
 
-pub statement-returns-in-While-clause-ok : goal.statement-returns-in-While-clause-ok
-statement-returns-in-While-clause-ok t c =
-    let held : c.deref-in-While.result.now ≡ c.in-While.turns.value =
-    search (rules, c.deref-in-While.ensures) in
+pub statement-returns-in-Loop-clause-ok : goal.statement-returns-in-Loop-clause-ok
+statement-returns-in-Loop-clause-ok t c =
+    let held : c.deref-in-Loop.result.now ≡ c.in-Loop.turns.value =
+    search (rules, c.deref-in-Loop.ensures) in
     view_returned c.repeat.result (layout_view c.args.storage.now) (walk_of c.args.self.now)
     (walk_of c.repeat.new.self) c.args.statement.now
-    (WhileStatement (expression_view c.deref-in-While.result.now.condition)
-    (list_view c.deref-in-While.result.now.body))
-    (ap statement_view c.in-While.is ∙ while_view c.in-While.turns
-    ∙ ap (λ one. WhileStatement (expression_view one.condition) (list_view one.body)) (sym held))
+    (LoopStatement (head_view c.deref-in-Loop.result.now.head) (list_view c.deref-in-Loop.result.now.body))
+    (ap statement_view c.in-Loop.is ∙ loop_view c.in-Loop.turns
+    ∙ ap (λ one. LoopStatement (head_view one.head) (list_view one.body)) (sym held))
     c.repeat.ensures.ok
-
-pub statement-returns-in-Iterate-clause-ok : goal.statement-returns-in-Iterate-clause-ok
-statement-returns-in-Iterate-clause-ok t c =
-    let held : c.deref-in-Iterate.result.now ≡ c.in-Iterate.turns.value =
-    search (rules, c.deref-in-Iterate.ensures) in
-    view_returned c.iterate.result (layout_view c.args.storage.now) (walk_of c.args.self.now)
-    (walk_of c.iterate.new.self) c.args.statement.now
-    (IterateStatement (iteration_view c.deref-in-Iterate.result.now.head)
-    (list_view c.deref-in-Iterate.result.now.body))
-    (ap statement_view c.in-Iterate.is ∙ iterate_view c.in-Iterate.turns
-    ∙ ap (λ one. IterateStatement (iteration_view one.head) (list_view one.body)) (sym held))
-    c.iterate.ensures.ok
 
 pub statement-returns-in-Case-clause-ok : goal.statement-returns-in-Case-clause-ok
 statement-returns-in-Case-clause-ok t c =

@@ -1,4 +1,4 @@
-use Rattle.types.proofs.Prelude.{arith, rules, if_tree_is, do_tree_is, while_tree_is, iterate_tree_is, case_tree_is, procedure_is, fault_in, leaves_fault, Leaves, subst, sym, ◌∙◌, length-map, ap, declaration_trees, procedure_view, listed_view, block_view, progress_view}
+use Rattle.types.proofs.Prelude.{arith, rules, if_tree_is, do_tree_is, loop_tree_is, case_tree_is, procedure_is, fault_in, leaves_fault, Leaves, subst, sym, ◌∙◌, length-map, ap, declaration_trees, procedure_view, listed_view, block_view, progress_view}
 use Rattle.types.proofs.StatementLists.{cases_go_on, cases_fail, cases_ended, statements_go_on, places_go_on, statements_ended}
 use Rattle.types.proofs.Bodies.{procedure_fails, procedure_whole}
 use Rattle.types.specs.internal.Walking.{inside_view}
@@ -42,11 +42,8 @@ kind-returns-in-If t c = grind (arith, if_tree_is)
 pub kind-returns-in-Do : goal.kind-returns-in-Do
 kind-returns-in-Do t c = grind (arith, do_tree_is)
 
-pub kind-returns-in-While : goal.kind-returns-in-While
-kind-returns-in-While t c = grind (arith, while_tree_is)
-
-pub kind-returns-in-Iterate : goal.kind-returns-in-Iterate
-kind-returns-in-Iterate t c = grind (arith, iterate_tree_is)
+pub kind-returns-in-Loop : goal.kind-returns-in-Loop
+kind-returns-in-Loop t c = grind (arith, loop_tree_is)
 
 pub kind-returns-in-Case : goal.kind-returns-in-Case
 kind-returns-in-Case t c = grind (arith, case_tree_is)
