@@ -1,4 +1,4 @@
--- What words of a source are to the rules.
+-- What words of a source are to the rules, which are our own.
 use Rattle.std.specs.Prelude.{ℕ, ◌+◌, ◌-◌, Bool, true, false, not, ◌==◌, ◌&&◌, if◌then◌else◌}
 use Rattle.std.specs.Prelude.{List, [], ◌∷◌, ◌++◌, length, take, drop, get_or}
 use Rattle.words.specs.declared.word.Word.{Word}

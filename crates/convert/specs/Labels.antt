@@ -1,4 +1,4 @@
--- Labels of a DO: the names, each with a colon, that stand directly before it.
+-- Labels of a DO: the names, each with a colon, that stand directly before it. The rules of this folder are our own.
 use Rattle.std.specs.Prelude.{ℕ, Bool, true, false, ◌&&◌, ◌||◌, List, [], ◌∷◌, reverse}
 use Rattle.std.specs.Str.{bytes_eq}
 use Rattle.symbols.specs.Names.{name_of, is_name as is_valid_name}

@@ -1,7 +1,8 @@
 //! Numbers of classes, by which they are compared.
 
 ghost use Rattle.std.specs.Prelude.{◌≡◌, ◌<◌};
-ghost use Rattle.convert.specs.Numbers.{class_number, mark_number, word_number};
+ghost use Rattle.words.specs.Ordinals.{mark_number, word_number};
+ghost use Rattle.convert.specs.Numbers.{class_number};
 
 use crate::class::Class;
 use words::{Mark, ReservedWord};

@@ -1,4 +1,4 @@
--- The results of the built-in functions of one value, by the byte that they take and by their types.
+-- The results of LOW, HIGH and DOUBLE, by the byte that they take and by their types.
 use Rattle.meaning.proofs.Prelude.{◌≡◌, ℕ, ◌%◌, ◌/◌, ◌<◌, refl, arith, Byte, Address, values_of}
 use Rattle.trees.specs.declared.functions.ByteOfValue.TheVariants.{LowByte, HighByte}
 use Rattle.trees.specs.declared.functions.UnaryFunction.{UnaryFunction}
@@ -29,7 +29,7 @@ operand_given Low is operand = absurd cc
 operand_given High is operand = absurd cc
 operand_given Double is operand = refl
 
--- a result is one of its type
+-- the result for an operand of its type is of the type of the result
 pub function_fits : (function : UnaryFunction) (of : ScalarType) (operand : ℕ) → operand < values_of of
     → function_of function operand < values_of (type_of_function function)
 function_fits Low of operand small = omega arith

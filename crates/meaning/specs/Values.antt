@@ -51,6 +51,7 @@ abbrev pub result_of_one : ScalarType → UnaryOperator → ℕ → ℕ
 result_of_one scalar Not operand = (values_of scalar - 1) - operand
 result_of_one scalar Negate operand = (values_of scalar - operand) % values_of scalar
 
+-- LOW is the low byte, HIGH the high byte (0 of a BYTE), and DOUBLE the value itself, as an ADDRESS
 abbrev pub function_of : UnaryFunction → ℕ → ℕ
 function_of Low operand = operand % 256
 function_of High operand = operand / 256

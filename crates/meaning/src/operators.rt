@@ -46,7 +46,7 @@ pub fn unary(scalar: ScalarType, operator: UnaryOperator, operand: u16) -> u16
     }
 }
 
-/// The built-in functions of one value.
+/// LOW, HIGH or DOUBLE of an operand.
 #[inline(always)]
 pub fn unary_function(function: UnaryFunction, operand: u16) -> u16
     ensures { result ≡ function_of function operand }

@@ -1,4 +1,4 @@
--- The bytes of the results of the built-in functions of one value.
+-- The bytes of the results of LOW, HIGH and DOUBLE.
 use Rattle.std.proofs.Common.{◌≡◌, ◌⊎◌, inl, inr, refl}
 use Rattle.trees.specs.declared.declaration.ScalarType.TheVariants.{Address, Byte}
 use Rattle.trees.specs.declared.functions.ByteOfValue.{ByteOfValue}

@@ -1,4 +1,4 @@
--- The types of the results of the built-in functions of one value (PL/M-80 Programming Manual, "Built-in procedures").
+-- The types of the results of LOW, HIGH and DOUBLE (PL/M-80 Programming Manual, "Built-in procedures").
 use Rattle.trees.specs.declared.declaration.ScalarType.{ScalarType}
 use Rattle.trees.specs.declared.declaration.ScalarType.TheVariants.{Byte, Address}
 use Rattle.trees.specs.declared.functions.UnaryFunction.{UnaryFunction}

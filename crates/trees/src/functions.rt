@@ -1,4 +1,4 @@
-//! The built-in functions of one value, and what each makes of the two bytes of its operand.
+//! LOW, HIGH and DOUBLE, and what each makes of the two bytes of its operand.
 
 ghost use Rattle.std.specs.Prelude.{◌≡◌};
 ghost use Rattle.trees.specs.Functions.{type_of_function};
@@ -6,7 +6,7 @@ ghost use Rattle.trees.specs.internal.Functions.{byte_taken};
 
 use crate::declaration::ScalarType;
 
-/// The built-in functions of one value.
+/// The built-in functions LOW, HIGH and DOUBLE, each of one value.
 #[derive(Clone, Copy, PartialEq, Eq)]
 pub enum UnaryFunction {
     /// The low byte.
@@ -25,7 +25,7 @@ pub enum ByteOfValue {
 }
 
 impl UnaryFunction {
-    /// The type of its result. An ADDRESS is the operand itself.
+    /// The type of its result.
     pub fn scalar(&self) -> ScalarType
         ensures { result ≡ type_of_function self.now }
     {

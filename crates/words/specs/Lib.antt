@@ -4,6 +4,7 @@ pub mod Numbers
 pub mod Strings
 pub mod Marks
 pub mod Items
+pub mod Ordinals
 pub mod Spelling
 pub mod Fault
 pub mod internal

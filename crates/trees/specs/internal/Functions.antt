@@ -1,4 +1,4 @@
--- The bytes of the results of the built-in functions of one value.
+-- The bytes of the results of LOW, HIGH and DOUBLE.
 use Rattle.trees.specs.declared.functions.ByteOfValue.{ByteOfValue}
 use Rattle.trees.specs.declared.functions.ByteOfValue.TheVariants.{LowByte, HighByte}
 use Rattle.trees.specs.declared.functions.UnaryFunction.{UnaryFunction}
