@@ -3,7 +3,7 @@
 use crate::globals::{Declarations, add_mains, add_missing, show_declarations};
 use crate::kept_files::{Content, KeptFile, find_kept, kept_bytes};
 use crate::kinds::as_object;
-use crate::object_names::{add_externals, add_objects};
+use crate::object_names::{add_externals, add_missing_objects, add_objects};
 use crate::options::explain_value;
 use crate::page::{Page, Piece};
 use crate::ranges::{add_object, add_ranges};
@@ -54,6 +54,7 @@ fn explain_program(page: &mut Page, seen: &Seen, told: Told) {
         [b'P', b'1'] => add_ranges(page, seen, true),
         [b'P', b'2'] => add_ranges(page, seen, false),
         [b'J', b'2' | b'4'] | [b'L', b'1' | b'4'] => add_named_twice(page, seen),
+        [b'L', b'2'] => add_missing_objects(page, seen, name),
         _ => {}
     }
 }
@@ -82,6 +83,16 @@ fn meaning_of_end(status: u8, until_dry: bool) -> Option<&'static str> {
         ),
         5 => Some(
             "The program did what the language does not define, right after its last event. See plm explain OUTSIDE",
+        ),
+        _ => None,
+    }
+}
+
+// What tells more of the end of a run, where it did not halt and the words do not ask for it: the option that tells where it stood.
+fn hint_of_end(status: u8, words: &[&str]) -> Option<&'static str> {
+    match status {
+        3 | 4 | 5 if !words.contains(&"--where") => Some(
+            "With --where a line tells where that was",
         ),
         _ => None,
     }
@@ -119,6 +130,9 @@ pub(crate) fn explanation(
         _ => {
             if let Some(meaning) = meaning_of_end(status, words.contains(&"--until-dry")) {
                 page.sentence(&[Piece::Text(meaning)]);
+            }
+            if let Some(hint) = hint_of_end(status, words) {
+                page.sentence(&[Piece::Text(hint)]);
             }
         }
     }

@@ -38,11 +38,11 @@ impl Declarations {
     }
 }
 
-// The PUBLIC and the EXTERNAL names of modules, each in the order of the modules.
+/// The PUBLIC and the EXTERNAL names of modules or of objects, each in the order of these.
 #[derive(Drop)]
-struct Shared {
-    public: Vec<Name>,
-    external: Vec<Name>,
+pub(crate) struct Shared {
+    pub(crate) public: Vec<Name>,
+    pub(crate) external: Vec<Name>,
 }
 
 // The name of what a module shares, by its number, and whether it is PUBLIC.
@@ -63,6 +63,14 @@ fn shared_name(typed: &Typed, item: GlobalItem) -> Option<(Name, bool)> {
 }
 
 impl Shared {
+    /// No names.
+    pub(crate) fn new(alloc: Global) -> Shared {
+        Shared {
+            public: Vec::new(alloc),
+            external: Vec::new(alloc),
+        }
+    }
+
     // Takes in what the module shares that a text is.
     fn add_text(&mut self, alloc: Global, text: &[u8]) -> Result<(), AllocError> {
         if let Ok(module) = read_source(alloc, text) {
@@ -76,14 +84,22 @@ impl Shared {
         }
         Ok(())
     }
+
+    /// The EXTERNAL names that are not PUBLIC, each of them once.
+    pub(crate) fn missing(&self, alloc: Global) -> Result<Vec<Name>, AllocError> {
+        let mut missing = Vec::new(alloc);
+        for name in &self.external {
+            if !self.public.contains(name) && !missing.contains(name) {
+                missing.push(*name)?;
+            }
+        }
+        Ok(missing)
+    }
 }
 
 // The names that the modules share whose texts were read.
 fn shared_in(alloc: Global, files: &[KeptFile]) -> Result<Shared, AllocError> {
-    let mut shared = Shared {
-        public: Vec::new(alloc),
-        external: Vec::new(alloc),
-    };
+    let mut shared = Shared::new(alloc);
     for file in files {
         if let Content::Bytes(text) = &file.content {
             shared.add_text(alloc, text.as_slice())?;
@@ -95,12 +111,7 @@ fn shared_in(alloc: Global, files: &[KeptFile]) -> Result<Shared, AllocError> {
 // The EXTERNAL names of the modules whose texts were read that none has as PUBLIC, each of them once.
 fn missing_in(alloc: Global, files: &[KeptFile]) -> Result<Vec<Name>, AllocError> {
     let shared = shared_in(alloc, files)?;
-    let mut missing = Vec::new(alloc);
-    for name in &shared.external {
-        if !shared.public.contains(name) && !missing.contains(name) {
-            missing.push(*name)?;
-        }
-    }
+    let missing = shared.missing(alloc)?;
     Ok(missing)
 }
 

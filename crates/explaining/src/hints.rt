@@ -1,9 +1,10 @@
 //! What is likely wrong at a word of a source that cannot stand where it stands.
 
-use crate::left_out::{cure_of, is_same_name};
-use crate::naming::awaited_after;
+use crate::left_out::{cure_of, cure_of_strange, is_same_name};
+use crate::naming::{awaited_after, find_object};
 use crate::openers::{Opened, Opener};
 use crate::page::{Page, Piece};
+use crate::statements::{is_reserved_name, line_of_do, may_end_after, said_at, statement_of};
 use words::{Kind, Mark, ReservedWord, Word};
 
 /// What is likely wrong.
@@ -105,9 +106,8 @@ const TYPES: [Kind; 2] = [
     Kind::Reserved(ReservedWord::Byte),
 ];
 
-// Whether a semicolon is likely missing between two words: they are on two lines, the first may end a statement, and the second
-// may begin one.
-fn lacks_semicolon(before: &Word, word: &Word) -> bool {
+// Whether a semicolon may be missing between two words: the first may end a statement, and the second may begin one.
+fn may_part(before: &Word, word: &Word) -> bool {
     let may_end = match before.kind {
         Kind::Name | Kind::Number(_) | Kind::String => true,
         Kind::Mark(mark) => mark == Mark::RightParenthesis,
@@ -118,7 +118,12 @@ fn lacks_semicolon(before: &Word, word: &Word) -> bool {
         Kind::Number(_) | Kind::String | Kind::Mark(_) => false,
         Kind::Reserved(reserved) => BEGINNING.contains(&reserved),
     };
-    before.line < word.line && may_end && may_begin
+    may_end && may_begin
+}
+
+// Whether a semicolon is likely missing between two words: it may be, and they are on two lines.
+fn lacks_semicolon(before: &Word, word: &Word) -> bool {
+    before.line < word.line && may_part(before, word)
 }
 
 // Whether an IF of words has no THEN yet.
@@ -282,6 +287,66 @@ fn hint_of_word(before: &Word, word: &Word) -> Option<Hint<'static>> {
     Some(Hint::Said(left_out?))
 }
 
+// What to write for the last of words, if it is one of another language that begins its statement, or comes after DO there.
+fn strange_at(before: &[Word]) -> Option<&'static str> {
+    let name = match statement_of(before) {
+        [first] if first.kind == Kind::Name => first.text,
+        [first, second]
+            if first.kind == Kind::Reserved(ReservedWord::Do) && second.kind == Kind::Name => {
+            second.text
+        }
+        _ => return None,
+    };
+    if is_declared(before, name) || find_object(before, name).is_some() {
+        return None;
+    }
+    cure_of_strange(name)
+}
+
+// What to write for a word of another language, as a hint.
+fn hint_of_strange(before: &[Word]) -> Option<Hint<'static>> {
+    Some(Hint::Said(strange_at(before)?))
+}
+
+// That a DO has no semicolon at the end of its line.
+fn hint_of_do(before: &[Word]) -> Option<Hint<'static>> {
+    Some(Hint::Missing {
+        what: "A semicolon",
+        line: line_of_do(before)?,
+    })
+}
+
+// That a word is reserved, where a statement has a name.
+fn hint_of_name<'a>(last: &Word, word: &Word<'a>, next: Option<&Word>) -> Option<Hint<'a>> {
+    if is_reserved_name(last, word, next) {
+        Some(Hint::Reserved(word.text))
+    } else {
+        None
+    }
+}
+
+// What is likely wrong at the first of the words `after`, by its statement.
+fn hint_of_words(before: &[Word], after: &[Word]) -> Option<Hint<'static>> {
+    Some(Hint::Said(said_at(before, after)?))
+}
+
+// That a semicolon may be missing before a word on its line.
+fn hint_of_line(before: &[Word], word: &Word, next: Option<&Word>) -> Option<Hint<'static>> {
+    let is_assignment = match next {
+        Some(next) => next.kind == Kind::Mark(Mark::EqualSign),
+        None => false,
+    };
+    match before {
+        [.., last]
+            if may_part(last, word)
+                && may_end_after(before)
+                && (word.kind != Kind::Name || is_assignment) => {
+            Some(Hint::Said("A semicolon may be missing before it"))
+        }
+        _ => None,
+    }
+}
+
 // What is likely wrong at the first word of a source.
 fn hint_of_first<'a>(word: &Word<'a>, next: Option<&Word<'a>>) -> Option<Hint<'a>> {
     let is_before_colon = match next {
@@ -384,14 +449,28 @@ fn hint_of_else(before: &[Word], word: &Word, open: &[Opener]) -> Option<Hint<'s
     }
 }
 
-/// What is likely wrong at a word of a source, with the words before it, the one after it, and what was open before the last
-/// one of those before it, the outermost first.
+// What is likely wrong at the first of the words `after`, by its statement alone.
+fn hint_in_statement<'a>(before: &[Word<'a>], after: &[Word<'a>]) -> Option<Hint<'a>> {
+    let ([.., last], [word, ..]) = (before, after) else {
+        return None;
+    };
+    let next = after.get(1);
+    hint_of_do(before)
+        .or(hint_of_name(last, word, next))
+        .or(hint_of_words(before, after))
+        .or(hint_of_line(before, word, next))
+}
+
+/// What is likely wrong at a word of a source, with the words before it, it with those after it, and what was open before the
+/// last one of those before it, the outermost first.
 pub(crate) fn hint_at<'a>(
     before: &[Word<'a>],
     word: &Word<'a>,
-    next: Option<&Word<'a>>,
+    after: &[Word<'a>],
     open: &[Opener<'a>],
 ) -> Option<Hint<'a>> {
+    let next = after.get(1);
+    let strange = hint_of_strange(before);
     match before {
         [] => hint_of_first(word, next),
         [_] | [_, _] => Some(NO_MODULE),
@@ -400,7 +479,7 @@ pub(crate) fn hint_at<'a>(
                 "The module has ended before: an END may be superfluous, or this is no part of it",
             )))
         }
-        [.., last] if lacks_semicolon(last, word) => Some(Hint::Missing {
+        [.., last] if strange.is_none() && lacks_semicolon(last, word) => Some(Hint::Missing {
             what: if awaits_then(before) {
                 "THEN"
             } else {
@@ -409,18 +488,20 @@ pub(crate) fn hint_at<'a>(
             line: last.line,
         }),
         [.., last] => {
-            let hint = hint_of_reserved(before, word, next)
+            let hint = strange
+                .or(hint_of_reserved(before, word, next))
                 .or(hint_of_based(before, word, next))
                 .or(hint_of_else(before, word, open))
                 .or(hint_of_end(last, word, open))
                 .or(hint_of_declaration(last, word, open))
                 .or(hint_of_pair(last, word))
                 .or(hint_of_statement(before, word));
-            if is_declared(before, word.text) {
+            let hint = if is_declared(before, word.text) {
                 hint
             } else {
                 hint.or(hint_of_word(last, word))
-            }
+            };
+            hint.or(hint_in_statement(before, after))
         }
     }
 }

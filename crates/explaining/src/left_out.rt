@@ -36,6 +36,23 @@ WORD WORD is of PL/M-86: ADDRESS
 ZERO ZERO is left out: compare the value, as A = 0
 ";
 
+// What to write for words that begin a statement in other languages, or come after DO there: a line for each.
+const STRANGE: &str = "\
+BEGIN BEGIN is DO here: DO; and END; go around several statements
+ELIF ELIF is two words here: ELSE IF
+ELSEIF ELSEIF is two words here: ELSE IF
+ELSIF ELSIF is two words here: ELSE IF
+ENDDO ENDDO is END here
+ENDIF An IF has no end of its own: DO; and END; go around several statements
+FOR FOR is DO here: DO I = 1 TO 10
+UNTIL UNTIL is left out: DO WHILE NOT
+";
+
+/// What to write for a word of another language.
+pub(crate) fn cure_of_strange(word: &[u8]) -> Option<&'static str> {
+    said_of(STRANGE, Name::from_text(word)?.as_slice())
+}
+
 /// What to write for a word of a source, where it is one that is left out.
 pub(crate) fn cure_of(word: &[u8]) -> Option<&'static str> {
     said_of(CURES, Name::from_text(word)?.as_slice())

@@ -27,6 +27,7 @@ mod ranges;
 mod refused;
 mod sentences;
 mod spelling;
+mod statements;
 mod told;
 mod twice;
 

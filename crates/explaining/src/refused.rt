@@ -184,11 +184,10 @@ fn explain_word(page: &mut Page, refused: &Refused) {
         Some(word) => {
             let count = refused.before.len().saturating_sub(1);
             let open = refused.open_after(page, refused.before.get(..count).unwrap_or(&[]));
-            let next = refused.after.get(1);
             hint_of_spelling(refused.text, word.start as usize).or(hint_at(
                 refused.before,
                 &word,
-                next,
+                refused.after,
                 open.as_slice(),
             ))
         }
