@@ -88,7 +88,7 @@ fn meaning_of_end(status: u8, until_dry: bool) -> Option<&'static str> {
     }
 }
 
-// What tells more of the end of a run, where it did not halt and the words do not ask for it: the option that tells where it stood.
+// The option that prints where a run stood that did not halt, if the words lack it.
 fn hint_of_end(status: u8, words: &[&str]) -> Option<&'static str> {
     match status {
         3 | 4 | 5 if !words.contains(&"--where") => Some(

@@ -8,7 +8,7 @@ use commands::{ObjectModule, read};
 use sources::Name;
 use std::alloc::{AllocError, Global};
 
-// The most missing names of which each is told.
+// How many missing names are listed at most.
 const MOST_TOLD: usize = 10;
 
 // What an object file has a name as.
@@ -130,7 +130,7 @@ fn add_list(page: &mut Page, told: &[Name], more: &[Name]) {
     page.pieces(&[Piece::Text(".\n")]);
 }
 
-// Adds the objects that have one of these names as external, but for one name of which that is told before.
+// Adds the objects that have one of these names as external. Those of the name `before` are there already.
 fn add_users(page: &mut Page, seen: &Seen, told: &[Name], before: &[u8]) {
     for name in told {
         if name.as_slice() != before {
@@ -139,8 +139,8 @@ fn add_users(page: &mut Page, seen: &Seen, told: &[Name], before: &[u8]) {
     }
 }
 
-/// Adds all external names that no object has as public, where there are several, with the objects that have each, but for the
-/// name of which that is told before. Of many names the first ones are told, and how many more there are.
+/// Adds all external names that no object has as public, if there are several, with the objects that have each. Those of the name
+/// `before` are there already. Of many names it adds the first ones, and how many more there are.
 pub(crate) fn add_missing_objects(page: &mut Page, seen: &Seen, before: &[u8]) {
     match missing_in(seen.alloc, seen.files) {
         Ok(names) if names.len() > 1 => {

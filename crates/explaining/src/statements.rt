@@ -432,7 +432,7 @@ impl Spot<'_, '_> {
         }
     }
 
-    // What is wrong with what comes after the type in a DECLARE, outside parentheses.
+    // What is wrong after the type in a DECLARE, outside parentheses.
     fn of_values(&self) -> Option<&'static str> {
         let is_closed = self.last.kind == Kind::Mark(Mark::RightParenthesis);
         if is_closed && is_sharing(self.word.kind) {
@@ -532,7 +532,7 @@ impl Spot<'_, '_> {
         }
     }
 
-    // What is wrong at a word that begins a statement elsewhere, or is none that begins one.
+    // What is wrong at a word that begins a statement elsewhere, or cannot begin one.
     fn of_beginning(&self) -> Option<&'static str> {
         let is_inside = wants_value(self.last.kind)
             || self.is_after(ReservedWord::Return)
