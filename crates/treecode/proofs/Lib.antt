@@ -13,7 +13,6 @@ pub mod PutNodes
 pub mod ArgumentLoop
 pub mod LabelNumbers
 pub mod AddedValues
-pub mod Heads
 pub mod AddedStatements
 pub mod NumberTables
 pub mod LabelLoop

@@ -21,13 +21,6 @@ pub struct Iteration {
     pub step: Option<ExpressionNumber>,
 }
 
-/// The head of a loop: the condition of a DO WHILE, or the head of an iterative DO.
-#[derive(Clone, Copy)]
-pub enum LoopHead {
-    While(ExpressionNumber),
-    Count(Iteration),
-}
-
 /// A statement. Lists of statements are in the module's table of lists, targets in its table of targets, arguments in
 /// its table of arguments.
 #[derive(Clone, Copy)]
@@ -64,9 +57,12 @@ pub enum Statement {
     },
     /// A simple DO, with its list.
     Do(Range),
-    /// DO WHILE or an iterative DO, with its list.
-    Loop {
-        head: LoopHead,
+    While {
+        condition: ExpressionNumber,
+        body: Range,
+    },
+    Iterate {
+        head: Iteration,
         body: Range,
     },
     /// DO CASE, with its statements.

@@ -5,7 +5,6 @@ pub mod Facts
 pub mod SameGlobals
 pub mod GlobalNames
 pub mod Formed
-mod Heads
 pub mod Heights
 pub mod Plain
 pub mod Charges

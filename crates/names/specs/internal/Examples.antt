@@ -4,7 +4,7 @@ use Rattle.trees.specs.declared.declaration.ScalarType.TheVariants.{Byte}
 use Rattle.trees.specs.declared.functions.UnaryFunction.TheVariants.{Low}
 use Rattle.trees.specs.declared.identifier.Identifier.{Identifier}
 use Rattle.trees.specs.declared.identifier.Place.{Place}
-use Rattle.trees.specs.Trees.{ReferenceLeaf, ReferenceTree, ReferenceTo, NoMember, NoArguments, ElementTree, ItemElement, ScalarItem, SingleSubject, StatementTree, LabelledStatement, StatementKindTree, NullStatement, AssignmentStatement, CallStatement, GotoStatement, IfStatement, DoStatement, NoElse, StatementTrees, NoStatements, MoreStatements, DeclarationTree, DeclareTree, ProcedureTree, DeclarationTrees, NoDeclarations, MoreDeclarations, ModuleTree}
+use Rattle.trees.specs.Trees.{ReferenceLeaf, ReferenceTree, ReferenceTo, NoMember, NoArguments, ElementTree, ItemElement, ScalarItem, SingleSubject, StatementTree, LabelledStatement, StatementKindTree, NullStatement, AssignmentStatement, CallStatement, GotoStatement, DoStatement, LoopStatement, WhileHead, StatementTrees, NoStatements, MoreStatements, DeclarationTree, DeclareTree, ProcedureTree, DeclarationTrees, NoDeclarations, MoreDeclarations, ModuleTree}
 use Rattle.names.specs.declared.entity.Binding.TheVariants.{Declared, BuiltInName, UnknownLabel}
 use Rattle.names.specs.declared.entity.BuiltIn.TheVariants.{Unary}
 use Rattle.names.specs.declared.entity.Entity.TheVariants.{Object, Procedure, Label}
@@ -41,10 +41,9 @@ plain kind = LabelledStatement [] kind
 abbrev labelled : ℕ → List ℕ → StatementKindTree → StatementTree
 labelled line label kind = LabelledStatement (on line label ∷ []) kind
 
--- IF A THEN DO; .. END;
-abbrev if_a : ℕ → List StatementTree → StatementTree
-if_a line body =
-    plain (IfStatement at (ReferenceLeaf (alone line (codes "A"))) (plain (DoStatement at NoDeclarations (lines body))) NoElse)
+-- DO WHILE A; .. END;
+abbrev while_a : ℕ → List StatementTree → StatementTree
+while_a line body = plain (LoopStatement at (WhileHead (ReferenceLeaf (alone line (codes "A")))) (lines body))
 
 -- DECLARE name BYTE, or name BASED base BYTE
 abbrev variable : ℕ → List ℕ → Option Identifier → ElementTree
@@ -109,24 +108,24 @@ base_before-is : IsBinding base_before (Declared (Object 0) ∷ [])
 unfolding in_turn see_item declares nothing moves jumps_to uses_of built_in_of
 base_before-is = record { faultless = refl; bound = refl }
 
--- GOTO L; IF A THEN DO; L: ; END; the label is not known outside its list
+-- GOTO L; DO WHILE A; L: ; END; the label is not known outside its list
 abbrev outside_list : ModuleTree
 outside_list =
     of_parts (declare 1 (codes "A") ∷ [])
     (plain (GotoStatement at (on 1 (codes "L")))
-    ∷ if_a 2 (labelled 2 (codes "L") (NullStatement at) ∷ [])
+    ∷ while_a 2 (labelled 2 (codes "L") (NullStatement at) ∷ [])
     ∷ [])
 
 outside_list-is : IsBinding outside_list (UnknownLabel ∷ Declared (Object 0) ∷ [])
 unfolding in_turn see_item declares nothing moves jumps_to uses_of built_in_of
 outside_list-is = record { faultless = refl; bound = refl }
 
--- GOTO L; IF A THEN DO; GOTO L; END; L: ; it is known in the whole of it and within
+-- GOTO L; DO WHILE A; GOTO L; END; L: ; it is known in the whole of it and within
 abbrev within_list : ModuleTree
 within_list =
     of_parts (declare 1 (codes "A") ∷ [])
     (plain (GotoStatement at (on 1 (codes "L")))
-    ∷ if_a 2 (plain (GotoStatement at (on 2 (codes "L"))) ∷ [])
+    ∷ while_a 2 (plain (GotoStatement at (on 2 (codes "L"))) ∷ [])
     ∷ labelled 3 (codes "L") (NullStatement at)
     ∷ [])
 
@@ -138,7 +137,7 @@ within_list-is = record { faultless = refl; bound = refl }
 abbrev two_labels : ModuleTree
 two_labels =
     of_parts (declare 1 (codes "A") ∷ [])
-    (if_a 1 (labelled 2 (codes "L") (NullStatement at) ∷ [])
+    (while_a 1 (labelled 2 (codes "L") (NullStatement at) ∷ [])
     ∷ labelled 3 (codes "L") (NullStatement at)
     ∷ [])
 

@@ -2,6 +2,7 @@
 -- and one with two labels of one number.
 use Rattle.typing.proofs.Prelude.{◌≢◌, ℕ, zero, suc, false, List, [], ◌∷◌, None, refl, sym, subst, arith, Any, All-from_recursion, All-nil, AllPairs-cons, Byte, FromDigits, Private, NumberNode, TypedStatement, LabelStatement, TypedExpression, TypedStatements, TypedList, ListOf, TypedModule, IsAmongLabels, labels_of_list, BodyIsSound, JumpsAreSound}
 use Rattle.typed_trees.specs.TypedTrees.{NullStatement, GotoStatement, IfStatement, DoStatement, CaseStatement, NoElse, ElseStatement, NoStatements, MoreStatements}
+use Rattle.typing.specs.internal.Samples.{typed_forever as forever}
 
 abbrev lines : List TypedStatement → TypedStatements
 lines [] = NoStatements
@@ -10,14 +11,14 @@ lines (first ∷ others) = MoreStatements first (lines others)
 abbrev always : TypedExpression
 always = NumberNode Byte 1 FromDigits
 
--- ; L: ; DO; GOTO L; END;: out of a list, to the second of the statements around it
-abbrev out_of_a_list : TypedList
-out_of_a_list = ListOf 0 (1 ∷ []) (lines (
+-- ; L: ; DO WHILE 1; GOTO L; END;: out of a loop, to the second of the statements around it
+abbrev out_of_a_loop : TypedList
+out_of_a_loop = ListOf 0 (1 ∷ []) (lines (
     NullStatement ∷ LabelStatement 0 ∷ NullStatement
-    ∷ DoStatement (ListOf 1 [] (lines (GotoStatement 0 ∷ []))) ∷ []))
+    ∷ forever (ListOf 1 [] (lines (GotoStatement 0 ∷ []))) ∷ []))
 
-out_of_a_list_is : BodyIsSound out_of_a_list
-out_of_a_list_is = record {
+out_of_a_loop_is : BodyIsSound out_of_a_loop
+out_of_a_loop_is = record {
   closed = (tt, (tt, (tt, ((to_it, tt), tt))));
   stands = ((refl, refl, refl), (tt, (tt, (tt, ((refl, (tt, tt)), tt)))));
 }
@@ -25,17 +26,17 @@ out_of_a_list_is = record {
     to_it : Any (IsAmongLabels 0) (labels_of_list 1 [] ∷ labels_of_list 0 (1 ∷ []) ∷ [])
     to_it = (1, labels_of_list 0 (1 ∷ []), omega arith, refl, (omega arith, omega arith))
 
--- GOTO L; DO; L: ; END;: a jump into a list leaves the body
-abbrev into_a_list : TypedList
-into_a_list = ListOf 0 [] (lines (
-    GotoStatement 0 ∷ DoStatement (ListOf 0 (0 ∷ []) (lines (LabelStatement 0 ∷ NullStatement ∷ []))) ∷ []))
+-- GOTO L; DO WHILE 1; L: ; END;: a jump into a loop leaves the body
+abbrev into_a_loop : TypedList
+into_a_loop = ListOf 0 [] (lines (
+    GotoStatement 0 ∷ forever (ListOf 0 (0 ∷ []) (lines (LabelStatement 0 ∷ NullStatement ∷ []))) ∷ []))
 
 of_one : {X : Type 0} (P : X → Type 0) (x : X) → Any P (x ∷ []) → P x
 of_one P x (zero, found, within, is, holds) = subst P (sym is) holds
 of_one P x (suc k, found, within, is, holds) = absurd (omega arith)
 
-into_a_list_is_not : BodyIsSound into_a_list → ⊥
-into_a_list_is_not is = omega (arith, of_one (IsAmongLabels 0) (labels_of_list 0 []) is.closed.0)
+into_a_loop_is_not : BodyIsSound into_a_loop → ⊥
+into_a_loop_is_not is = omega (arith, of_one (IsAmongLabels 0) (labels_of_list 0 []) is.closed.0)
 
 -- ; L: ;, with L as the first of the statements
 abbrev wrong_place : TypedList

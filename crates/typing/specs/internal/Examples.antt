@@ -10,7 +10,7 @@ use Rattle.typed_trees.specs.declared.parts.NumberOrigin.TheVariants.{FromDigits
 use Rattle.typed_trees.specs.TypedTrees.{NumberNode, ValueNode, LocationNode, ListNode, ConversionNode, UnaryNode, BinaryNode, InputNode, TypedReference, PartOf, NoSubscript, At, StoredIn, SentTo, TypedStatement, LabelStatement, NullStatement, AssignmentStatement, GotoStatement, NoStatements, MoreStatements, TypedList, ListOf, TypedModule}
 use Rattle.typing.specs.internal.Checks.{Checked, ◌>>=◌, refuse}
 use Rattle.typing.specs.internal.Typing.{typing_of}
-use Rattle.typing.specs.internal.Samples.{on_line, name_on, number_on, string_on, a_number, plain, at_subscript, value_of, scalar_item, unlabelled, assigns, simple, statements_of, module_of, doing}
+use Rattle.typing.specs.internal.Samples.{on_line, name_on, number_on, string_on, a_number, plain, at_subscript, value_of, scalar_item, unlabelled, assigns, forever, statements_of, module_of, doing}
 
 -- the statements of the main program of a module
 abbrev pub main_of : ModuleTree → Checked TypedList
@@ -117,15 +117,15 @@ pub port_too_great :
 unfolding typing_of built_in_of
 port_too_great = refl
 
--- GOTO L; DO; L: ; END;: L is known in its list alone
-pub jump_into_a_list :
+-- GOTO L; DO WHILE 1; L: ; END;: L is known in its list alone
+pub jump_into_a_loop :
     main_of (doing (
     unlabelled (Goto (on_line 3) (name_on 3 (codes "L")))
-    ∷ unlabelled (simple 4 (LabelledStatement (name_on 5 (codes "L") ∷ []) (Null (on_line 5)) ∷ []))
+    ∷ unlabelled (forever 4 (LabelledStatement (name_on 5 (codes "L") ∷ []) (Null (on_line 5)) ∷ []))
     ∷ []))
     ≡ refuse UnknownLabel (on_line 3)
 unfolding typing_of built_in_of
-jump_into_a_list = refl
+jump_into_a_loop = refl
 
 -- DO CASE 0; L: ; END;
 pub label_in_a_case :

@@ -6,7 +6,9 @@ use Rattle.trees.specs.declared.declaration.ScalarType.TheVariants.{Byte, Addres
 use Rattle.trees.specs.declared.declaration.Storage.TheVariants.{Data}
 use Rattle.trees.specs.declared.identifier.Identifier.{Identifier}
 use Rattle.trees.specs.declared.identifier.Place.{Place}
-use Rattle.trees.specs.Trees.{ConstantTree, NumberConstant, StringConstant, ExpressionTree, ConstantLeaf, ReferenceLeaf, ReferenceTree, ReferenceTo, NoMember, ArgumentTrees, NoArguments, MoreArguments, ConstantOrigin, RestrictedTree, ItemTypeTree, ScalarItem, SingleSubject, ItemTree, ElementTree, ItemElement, HeadingTree, StatementTree, LabelledStatement, StatementKindTree, AssignmentStatement, DoStatement, StatementTrees, NoStatements, MoreStatements, DeclarationTree, DeclareTree, ProcedureTree, DeclarationTrees, NoDeclarations, MoreDeclarations, ModuleTree}
+use Rattle.trees.specs.Trees.{ConstantTree, NumberConstant, StringConstant, ExpressionTree, ConstantLeaf, ReferenceLeaf, ReferenceTree, ReferenceTo, NoMember, ArgumentTrees, NoArguments, MoreArguments, ConstantOrigin, RestrictedTree, ItemTypeTree, ScalarItem, SingleSubject, ItemTree, ElementTree, ItemElement, HeadingTree, WhileHead, StatementTree, LabelledStatement, StatementKindTree, AssignmentStatement, LoopStatement, StatementTrees, NoStatements, MoreStatements, DeclarationTree, DeclareTree, ProcedureTree, DeclarationTrees, NoDeclarations, MoreDeclarations, ModuleTree}
+use Rattle.typed_trees.specs.declared.parts.NumberOrigin.TheVariants.{FromDigits}
+use Rattle.typed_trees.specs.TypedTrees.{NumberNode, WhileHead as TypedWhile, TypedStatement, LoopStatement as TypedLoop, TypedList}
 
 -- a place on a line
 abbrev pub on_line : ℕ → Place
@@ -66,9 +68,12 @@ unlabelled kind = LabelledStatement [] kind
 abbrev pub assigns : List ReferenceTree → ExpressionTree → StatementTree
 assigns targets value = unlabelled (AssignmentStatement targets value)
 
--- a simple DO without declarations
-abbrev pub simple : (line : ℕ) → List StatementTree → StatementKindTree
-simple line done = DoStatement (on_line line) NoDeclarations (statements_of done)
+-- DO WHILE 1, and what it is as a typed statement
+abbrev pub forever : (line : ℕ) → List StatementTree → StatementKindTree
+forever line done = LoopStatement (on_line line) (WhileHead (a_number line 1)) (statements_of done)
+
+abbrev pub typed_forever : TypedList → TypedStatement
+typed_forever body = TypedLoop (TypedWhile (NumberNode Byte 1 FromDigits)) body
 
 -- a module M of these declarations and statements
 abbrev pub module_of : List DeclarationTree → List StatementTree → ModuleTree

@@ -8,15 +8,15 @@ use Rattle.typed_trees.specs.declared.parts.NumberOrigin.TheVariants.{FromDigits
 use Rattle.typed_trees.specs.TypedTrees.{NumberNode, ValueNode, ConversionNode, StoredIn, NoArguments, MoreArguments, LabelStatement, NullStatement, AssignmentStatement, CallStatement, DoStatement, NoStatements, MoreStatements, TypedList, ListOf, TypedProcedure, TypedModule}
 use Rattle.typing.specs.internal.Checks.{refuse}
 use Rattle.typing.specs.internal.Typing.{typing_of}
-use Rattle.typing.specs.internal.Samples.{on_line, name_on, a_number, plain, arguments_of, value_of, scalar_item, unlabelled, assigns, simple, statements_of, declarations_of, heading_on, procedure_of, module_of, doing}
+use Rattle.typing.specs.internal.Samples.{on_line, name_on, a_number, plain, arguments_of, value_of, scalar_item, unlabelled, assigns, forever, typed_forever, statements_of, declarations_of, heading_on, procedure_of, module_of, doing}
 use Rattle.typing.specs.internal.Examples.{main_of, whole, does}
 use Rattle.typing.specs.internal.Measures.{measured, calls}
 
--- L: DO; M: ; N: ; END; K: ;: the labels of a list are numbered before those of the lists in it
+-- L: DO WHILE 1; M: ; N: ; END; K: ;: the labels of a list are numbered before those of the lists in it
 pub labels_of_lists :
     main_of (module_of [] (
     LabelledStatement (name_on 2 (codes "L") ∷ [])
-    (simple 2 (
+    (forever 2 (
     LabelledStatement (name_on 3 (codes "M") ∷ []) (Null (on_line 3))
     ∷ LabelledStatement (name_on 3 (codes "N") ∷ []) (Null (on_line 3))
     ∷ []))
@@ -25,7 +25,7 @@ pub labels_of_lists :
     ≡ Ok (ListOf 0 (0 ∷ 2 ∷ []) (
     MoreStatements (LabelStatement 0)
     (MoreStatements
-    (DoStatement (ListOf 2 (0 ∷ 2 ∷ []) (
+    (typed_forever (ListOf 2 (0 ∷ 2 ∷ []) (
     MoreStatements (LabelStatement 2)
     (MoreStatements NullStatement
     (MoreStatements (LabelStatement 3)
