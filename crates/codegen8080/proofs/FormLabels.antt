@@ -11,7 +11,7 @@ use Rattle.layout.specs.Storage.{Storage}
 use Rattle.treecode.specs.declared.expression.ExpressionNumber.{ExpressionNumber}
 use Rattle.treecode.specs.declared.reference.Target.TheVariants.{Stored}
 use Rattle.treecode.specs.declared.statement.Iteration.{Iteration}
-use Rattle.treecode.specs.internal.Lowered.{AreMoreStatements, AreNoStatements, AreStatements, IsAssignment, IsCall, IsCase, IsDo, IsElse, IsGoto, IsHalt, IsIf, IsIterate, IsLabel, IsList, IsListOf, IsMove, IsNoElse, IsNull, IsReturn, IsSomeElse, IsStatement, IsStatementForm, IsWhile}
+use Rattle.treecode.specs.internal.Lowered.{AreMoreStatements, AreNoStatements, AreStatements, IsAssignment, IsCall, IsCase, IsDo, IsElse, IsGoto, IsHalt, IsIf, IsCountHead, IsLabel, IsList, IsListOf, IsLoop, IsMove, IsNoElse, IsNull, IsReturn, IsSomeElse, IsStatement, IsStatementForm, IsWhileHead}
 use Rattle.treecode.specs.internal.Nodes.{Nodes, nodes_of}
 use Rattle.treecode.specs.internal.Queries.{item}
 unfoldable use Rattle.steps8080.specs.internal.Queries.{number}
@@ -732,9 +732,9 @@ module _ {storage : Storage} {labels : List ℕ} {bound : ℕ} (body : Body) (si
   form_labels (IsIf {condition = condition} {body = then_part} {then_tree = then_tree} is then_is else_is) few =
       TakesLabels (if_plan then_part then_tree then_is body site condition refl else_is few)
   form_labels (IsDo {range = range} is) few = TakesLabels (list_plan range is)
-  form_labels (IsWhile {condition = condition} {range = range} is list_is) few =
+  form_labels (IsLoop {range = range} (IsWhileHead {condition = condition} is) list_is) few =
       TakesLabels (while_list_plan condition range list_is few)
-  form_labels (IsIterate {head = head} {range = range} is list_is) few =
+  form_labels (IsLoop {range = range} (IsCountHead {head = head} is) list_is) few =
       TakesLabels (iteration_list_plan head range list_is few)
   form_labels (IsCase {choice = choice} {range = range} {trees = trees} is are) few =
       TakesLabels (case_plan storage labels bound body range first trees are site choice few)

@@ -14,8 +14,10 @@ use Rattle.treecode.specs.declared.reference.Reference.{Reference}
 use Rattle.treecode.specs.declared.reference.Target.{Target}
 use Rattle.treecode.specs.declared.reference.Target.TheVariants.{Sent, Stored}
 use Rattle.treecode.specs.declared.statement.Iteration.{Iteration}
+use Rattle.treecode.specs.declared.statement.LoopHead.{LoopHead}
 use Rattle.treecode.specs.declared.statement.Statement.TheVariants as statements
 use Rattle.treecode.specs.internal.Queries.{item, source, target as target_at}
+use Rattle.treecode.proofs.Heads.{each_head}
 unfoldable use Rattle.steps8080.specs.internal.Queries.{keeps, known, location_of, number}
 use Rattle.steps8080.specs.internal.Site.{scalar}
 use Rattle.steps8080.specs.internal.Step.{label_of}
@@ -41,7 +43,7 @@ unfoldable use Rattle.statements8080.specs.internal.Tests.{test_of, test_steps}
 unfoldable use Rattle.codegen8080.specs.internal.Procedures.{below_return_steps, drop_steps, end_steps, entry_steps_by, exchanged_steps, frame_entry_steps, kept_steps, last_argument_steps, odd_byte_steps, popped_at, popped_from, pops_steps, push_loop_steps, pushed_arguments_steps, pushes_steps, return_of_frame_steps, return_over_any_steps, return_over_steps, return_steps_by, static_entry_steps, stores_steps as arguments_steps, zero_result_steps, zeros_steps}
 use Rattle.codegen8080.specs.internal.Procedures.{is_address, store_argument}
 unfoldable use Rattle.codegen8080.specs.internal.Statements.{return_of_steps, statement_steps}
-use Rattle.codegen8080.specs.internal.Statements.{returned_value_steps}
+use Rattle.codegen8080.specs.internal.Statements.{head_steps, returned_value_steps}
 use Rattle.statements8080.specs.internal.Plans.{all, plain, steps_from}
 use Rattle.std.specs.List.{AllByRecursion, list_any}
 use Rattle.std.specs.Prelude.{IfSome, ◌||◌}
@@ -721,6 +723,7 @@ module _ (site : Site) where
   statement_own body (statements.If condition then_part else_part) first =
       if_own body condition then_part else_part first
   statement_own body (statements.Do list) first = wordless refl
-  statement_own body (statements.While condition list) first = while_own condition list first
-  statement_own body (statements.Iterate head list) first = iteration_own body head list first
+  statement_own body (statements.Loop head list) first =
+      each_head (λ (one : LoopHead). OwnPlan site.tree.now (head_steps body site one list first))
+      (λ condition. while_own condition list first) (λ iteration. iteration_own body iteration list first) head
   statement_own body (statements.Case choice list) first = case_own body choice list first

@@ -17,7 +17,7 @@ use Rattle.treecode.specs.declared.reference.Target.{Target}
 use Rattle.treecode.specs.declared.reference.Target.TheVariants.{Sent, Stored}
 use Rattle.treecode.specs.declared.statement.Iteration.{Iteration}
 use Rattle.treecode.specs.declared.statement.Statement.TheVariants as statements
-use Rattle.treecode.specs.internal.Lowered.{IsAssignment, IsCall, IsCase, IsDo, IsElse, IsGoto, IsHalt, IsIf, IsIterate, IsLabel, IsMove, IsNoElse, IsNull, IsReturn, IsSomeElse, IsStatementForm, IsWhile}
+use Rattle.treecode.specs.internal.Lowered.{IsAssignment, IsCall, IsCase, IsDo, IsElse, IsGoto, IsHalt, IsIf, IsCountHead, IsLabel, IsLoop, IsMove, IsNoElse, IsNull, IsReturn, IsSomeElse, IsStatementForm, IsWhileHead}
 use Rattle.treecode.specs.internal.Nodes.{Nodes, nodes_of}
 use Rattle.treecode.specs.internal.Queries.{item, source, target as target_at}
 unfoldable use Rattle.steps8080.specs.internal.Queries.{keeps, known, location_of, number}
@@ -564,9 +564,9 @@ module _ {storage : Storage} {labels : List ℕ} {bound : ℕ} (body : Body) whe
   form_steps_stand site first (IsIf {condition = condition} {body = then_part} {otherwise = part} is then_is else_is) =
       if_stands then_part (statement_stands then_is) body site condition part first (else_stands else_is)
   form_steps_stand site first (IsDo is) = MoreStand (list_stands is) NoneStand
-  form_steps_stand site first (IsWhile {condition = condition} {range = range} is list_is) =
+  form_steps_stand site first (IsLoop {range = range} (IsWhileHead {condition = condition} is) list_is) =
       while_stands range (list_stands list_is) site condition first
-  form_steps_stand site first (IsIterate {head = head} {range = range} is list_is) =
+  form_steps_stand site first (IsLoop {range = range} (IsCountHead {head = head} is) list_is) =
       iteration_stands range (list_stands list_is) body site head first
   form_steps_stand site first (IsCase {choice = choice} {range = range} {trees = trees} is are) =
       case_stands body range (record { storage = storage; labels = labels; trees = trees; are = are }) site choice first

@@ -13,7 +13,7 @@ use Rattle.treecode.specs.declared.place.Home.{Home}
 use Rattle.treecode.specs.declared.place.Place.{Place}
 use Rattle.treecode.specs.declared.procedure.ProcedureKind.TheVariants as kinds
 use Rattle.treecode.specs.internal.Known.{known_number}
-use Rattle.treecode.specs.internal.Lowered.{AreMoreStatements, AreNoStatements, AreStatements, HasBody, IsAssignment, IsCall, IsCase, IsDo, IsElse, IsGoto, IsHalt, IsIf, IsIterate, IsLabel, IsList, IsListOf, IsMove, IsNoElse, IsNull, IsReturn, IsSomeElse, IsStatement, IsStatementForm, IsStatementNode, IsWhile, ends_by, labels_numbered_in_list, reaches_end, reaches_end_of_else, reaches_end_of_list, reaches_end_of_statements}
+use Rattle.treecode.specs.internal.Lowered.{AreMoreStatements, AreNoStatements, AreStatements, HasBody, IsAssignment, IsCall, IsCase, IsDo, IsElse, IsGoto, IsHalt, IsIf, IsCountHead, IsLabel, IsList, IsListOf, IsLoop, IsMove, IsNoElse, IsNull, IsReturn, IsSomeElse, IsStatement, IsStatementForm, IsStatementNode, IsWhileHead, ends_by, labels_numbered_in_list, reaches_end, reaches_end_of_else, reaches_end_of_list, reaches_end_of_statements}
 use Rattle.treecode.specs.internal.Nodes.{nodes_of}
 use Rattle.treecode.specs.internal.Traits.{KeepTraits}
 use Rattle.treecode.proofs.KeptValues.{known_kept}
@@ -264,7 +264,7 @@ module _ (body : Body) (called : List Bool) (storage : Storage) (labels : List â
           if_fills body called (knowing (site_of body) facts) condition then_part first
           (statement_some then_part then_is both.0) otherwise (else_some else_is both.1)
       form_some facts first (IsDo {range = range} is) none = inl (list_some range is none)
-      form_some facts first (IsWhile {condition = condition} {range = range} {test = tree} test is) none =
+      form_some facts first (IsLoop {range = range} (IsWhileHead {condition = condition} test) is) none =
           while_fills body called (knowing (site_of body) facts) condition range first
           (ap ends_by (number_is (knowing (site_of body) facts) condition
           âˆ™ ap (Î» (found : Option Place). known_number found) (known_kept (nodes_of body.tree.now) storage keeps test))
@@ -274,7 +274,7 @@ module _ (body : Body) (called : List Bool) (storage : Storage) (labels : List â
       form_some facts first (IsAssignment _ value) none = absurd (not_both true refl none)
       form_some facts first (IsCall arguments) none = absurd (not_both true refl none)
       form_some facts first (IsMove count source destination) none = absurd (not_both true refl none)
-      form_some facts first (IsIterate head is) none = absurd (not_both true refl none)
+      form_some facts first (IsLoop (IsCountHead iteration) is) none = absurd (not_both true refl none)
       form_some facts first (IsCase choice are) none = absurd (not_both true refl none)
 
       else_some :

@@ -3,7 +3,7 @@
 ghost use Rattle.std.specs.Prelude.{◌∷◌, [], OnOk};
 ghost use Rattle.steps8080.specs.declared.step.Task.TheVariants.{Call};
 ghost use Rattle.statements8080.specs.internal.Plans.{PlanAdds, PlanAddsWithLabels, part};
-ghost use Rattle.codegen8080.specs.internal.Statements.{goto_steps, halt_steps, return_of_steps, returned_value_steps, statement_labels, statement_steps};
+ghost use Rattle.codegen8080.specs.internal.Statements.{goto_steps, halt_steps, head_labels, head_steps, return_of_steps, returned_value_steps, statement_labels, statement_steps};
 
 use crate::procedures::plan_return;
 use asm8080::WordForm;
@@ -13,7 +13,7 @@ use statements8080::{
     Body, Plan, Planned, plan_assignment, plan_case, plan_if, plan_iteration, plan_move, plan_while,
 };
 use std::alloc::AllocError;
-use treecode::{ExpressionNumber, Range, Statement};
+use treecode::{ExpressionNumber, LoopHead, Range, Statement};
 use trees::ScalarType;
 
 // The code ends with HLT.
@@ -74,6 +74,23 @@ fn plan_call(plan: &mut Plan, procedure: u32, arguments: Range) -> Result<(), Al
     )
 }
 
+// DO WHILE, or an iterative DO.
+fn plan_loop(
+    body: &Body<'_>,
+    site: &Site<'_>,
+    plan: &mut Plan,
+    head: LoopHead,
+    list: Range,
+) -> Result<(), AllocError>
+    ensures { OnOk result (PlanAddsWithLabels plan.old plan.new (head_labels site.now head)
+        (head_steps body.now site.now head list)) }
+{
+    match head {
+        LoopHead::While(condition) => plan_while(site, plan, condition, list),
+        LoopHead::Count(iteration) => plan_iteration(body, site, plan, &iteration, list),
+    }
+}
+
 /// The steps of a statement.
 #[tactic(auto, unfolding(crate::specs::internal::Statements::statement_steps, crate::specs::internal::Statements::statement_labels), using(crate::proofs::Planning::none_taken))]
 pub(crate) fn plan_statement(
@@ -109,11 +126,7 @@ pub(crate) fn plan_statement(
             otherwise,
         } => plan_if(body, site, plan, condition, then, otherwise),
         Statement::Do(list) => plan.push(Planned::List(list)),
-        Statement::While {
-            condition,
-            body: list,
-        } => plan_while(site, plan, condition, list),
-        Statement::Iterate { head, body: list } => { plan_iteration(body, site, plan, &head, list) }
+        Statement::Loop { head, body: list } => plan_loop(body, site, plan, head, list),
         Statement::Case { choice, body: list } => plan_case(body, site, plan, choice, list),
     }
 }

@@ -138,7 +138,7 @@ pub data DerivesTargets : List Symbol → List ReferenceTree → List Symbol →
       → DerivesTargets middle others rest
       → DerivesTargets symbols (target ∷ others) rest
 
--- the head of an iterative DO
+-- the head of a loop that is that of an iterative DO
 abbrev count : Identifier → ExpressionTree → ExpressionTree → Option ExpressionTree → LoopHeadTree
 count variable first last step =
     CountHead (record { variable = variable; first = first; last = last; step = step })

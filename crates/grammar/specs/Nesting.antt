@@ -3,7 +3,7 @@ use Rattle.std.specs.Prelude.{◌≡◌, ℕ, suc, ◌≤◌, max, List, [], ◌
 use Rattle.std.specs.Option.{option_map_or}
 use Rattle.trees.specs.declared.identifier.Identifier.{Identifier}
 use Rattle.grammar.specs.declared.TheConstants.{NESTING_LIMIT}
-use Rattle.trees.specs.Trees.{ExpressionTree, ConstantLeaf, ReferenceLeaf, LocationLeaf, ListLeaf, ParenthesizedNode, AssignmentNode, UnaryNode, BinaryNode, ReferenceTree, ReferenceTo, MemberTree, NoMember, MemberOf, ArgumentTrees, NoArguments, MoreArguments, IterationTree, LoopHeadTree, WhileHead, CountHead, StatementTree, LabelledStatement, StatementKindTree, NullStatement, AssignmentStatement, CallStatement, ReturnStatement, HaltStatement, GotoStatement, IfStatement, DoStatement, LoopStatement, CaseStatement, ElseTree, NoElse, ElseStatement, StatementTrees, NoStatements, MoreStatements, DeclarationTree, DeclareTree, ProcedureTree, DeclarationTrees, NoDeclarations, MoreDeclarations, ModuleTree}
+use Rattle.trees.specs.Trees.{ExpressionTree, ConstantLeaf, ReferenceLeaf, LocationLeaf, ListLeaf, ParenthesizedNode, AssignmentNode, UnaryNode, BinaryNode, ReferenceTree, ReferenceTo, MemberTree, NoMember, MemberOf, ArgumentTrees, NoArguments, MoreArguments, IterationTree, LoopHeadTree, of_loop_head, StatementTree, LabelledStatement, StatementKindTree, NullStatement, AssignmentStatement, CallStatement, ReturnStatement, HaltStatement, GotoStatement, IfStatement, DoStatement, LoopStatement, CaseStatement, ElseTree, NoElse, ElseStatement, StatementTrees, NoStatements, MoreStatements, DeclarationTree, DeclareTree, ProcedureTree, DeclarationTrees, NoDeclarations, MoreDeclarations, ModuleTree}
 
 -- How many levels an expression takes. A leaf and an operator are one level, and so are parentheses; `(A := e)` is
 -- two.
@@ -51,8 +51,7 @@ iteration_height iteration =
 
 -- the levels of the head of a loop
 abbrev pub head_height : LoopHeadTree → ℕ
-head_height (WhileHead condition) = expression_height condition
-head_height (CountHead iteration) = iteration_height iteration
+head_height = of_loop_head expression_height iteration_height
 
 -- How many levels a statement or a declaration takes. A statement and a procedure are one level, and the parts inside
 -- are deeper. Labels and DECLARE take none.

@@ -243,8 +243,8 @@ iterated later around head body body_done s =
     if nat_lt last number then Gave Onward u
     else taking_one u (λ v. then_do (body_done v) (stepped later around head body))))
 
--- A turn of a loop, from its test on: that of a DO WHILE is its condition, and it has no step. What the body does
--- is given.
+-- A turn of a loop, from its test on. The test of a DO WHILE is its condition, and a DO WHILE has no step. What the
+-- body does is given.
 abbrev pub turned :
     Later → Surroundings → TypedHead → TypedList → (body_done : State → Outcome Flow) → State → Outcome Flow
 turned later around (WhileHead condition) body body_done s =

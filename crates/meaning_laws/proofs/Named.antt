@@ -1,7 +1,7 @@
 -- What the statements and expressions of a soundly typed module name is there.
-use Rattle.meaning_laws.proofs.Prelude.{◌≡◌, List, [], ◌∷◌, Option, Some, None, slice_get, IfSome, enumerate_from, All-weaker, recursion_from_All, ScalarType, type_of, TypedExpression, NumberNode, ValueNode, LocationNode, ListNode, ConversionNode, AssignmentNode, UnaryNode, BinaryNode, CallNode, FunctionNode, ShiftNode, InputNode, TypedReference, PartOf, Subscript, NoSubscript, At, TypedTarget, StoredIn, SentTo, TypedArguments, NoArguments, MoreArguments, TypedHead, TypedStatement, LabelStatement, NullStatement, AssignmentStatement, CallStatement, MoveStatement, ReturnStatement, HaltStatement, GotoStatement, IfStatement, DoStatement, LoopStatement, CaseStatement, TypedElse, NoElse, ElseStatement, TypedStatements, NoStatements, MoreStatements, TypedList, ListOf, TypedModule, Within, WithinProcedure, WithinMain, IsReturned, TypesHold, TypesHoldIn, TypesHoldInArguments, TypesHoldInElse, TypesHoldInHead, TypesHoldInList, TypesHoldInProcedure, TypesHoldInReference, TypesHoldInStatements, TypesHoldInSubscript, TypesHoldInTarget, TypesHoldInTargets, IsSoundlyTyped, Surroundings, IsWhole, ReferenceIsMeant, at_place}
-use Rattle.typed_trees.specs.TypedTrees.{WhileHead, CountHead}
-use Rattle.meaning_laws.specs.internal.Named.{AreNamed, AreNamedIn, AreNamedInArguments, AreNamedInElse, AreNamedInHead, AreNamedInList, AreNamedInProcedure, AreNamedInReference, AreNamedInStatements, AreNamedInSubscript, AreNamedInTarget, AreNamedInTargets, NamesAreMeant}
+use Rattle.meaning_laws.proofs.Prelude.{◌≡◌, List, [], ◌∷◌, Option, Some, None, slice_get, IfSome, enumerate_from, All-weaker, recursion_from_All, ScalarType, type_of, TypedExpression, NumberNode, ValueNode, LocationNode, ListNode, ConversionNode, AssignmentNode, UnaryNode, BinaryNode, CallNode, FunctionNode, ShiftNode, InputNode, TypedReference, PartOf, Subscript, NoSubscript, At, TypedTarget, StoredIn, SentTo, TypedArguments, NoArguments, MoreArguments, TypedIteration, TypedHead, TypedStatement, LabelStatement, NullStatement, AssignmentStatement, CallStatement, MoveStatement, ReturnStatement, HaltStatement, GotoStatement, IfStatement, DoStatement, LoopStatement, CaseStatement, TypedElse, NoElse, ElseStatement, TypedStatements, NoStatements, MoreStatements, TypedList, ListOf, TypedModule, Within, WithinProcedure, WithinMain, IsReturned, TypesHold, TypesHoldIn, TypesHoldInArguments, TypesHoldInElse, TypesHoldInHead, TypesHoldInIteration, TypesHoldInList, TypesHoldInProcedure, TypesHoldInReference, TypesHoldInStatements, TypesHoldInSubscript, TypesHoldInTarget, TypesHoldInTargets, IsSoundlyTyped, Surroundings, IsWhole, ReferenceIsMeant, at_place}
+use Rattle.typed_trees.proofs.Heads.{head_gives}
+use Rattle.meaning_laws.specs.internal.Named.{AreNamed, AreNamedIn, AreNamedInArguments, AreNamedInElse, AreNamedInHead, AreNamedInIteration, AreNamedInList, AreNamedInProcedure, AreNamedInReference, AreNamedInStatements, AreNamedInSubscript, AreNamedInTarget, AreNamedInTargets, NamesAreMeant}
 use Rattle.meaning_laws.proofs.Calls.{call_is_meant}
 use Rattle.meaning_laws.proofs.Names.{list_is_placed}
 use Rattle.meaning_laws.proofs.References.{counter_is_meant, location_is_meant, scalar_is_meant}
@@ -72,15 +72,18 @@ module _ (around : Surroundings) (whole : IsWhole around.program) (typed : Typed
   in_some None fits = tt
   in_some (Some expression) fits = in_expression expression fits
 
-  in_head : (head : TypedHead) → TypesHoldInHead typed within head
-      → AreNamedInHead around typed within head
-  in_head (WhileHead condition) fits = in_expression condition fits
-  in_head (CountHead head) (counts, first, last, step) = (
+  in_iteration : (head : TypedIteration) → TypesHoldInIteration typed within head
+      → AreNamedInIteration around typed within head
+  in_iteration head (counts, first, last, step) = (
     counter_is_meant around.program whole around.number_of_module typed within here head counts,
     in_expression head.first first,
     in_expression head.last last,
     in_some head.step step,
   )
+
+  in_head : (head : TypedHead) → TypesHoldInHead typed within head
+      → AreNamedInHead around typed within head
+  in_head head fits = head_gives in_expression in_iteration head fits
 
 module _ (around : Surroundings) (whole : IsWhole around.program) (typed : TypedModule)
     (here : slice_get around.program.modules around.number_of_module ≡ Some typed) where

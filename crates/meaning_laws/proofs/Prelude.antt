@@ -5,7 +5,7 @@ pub use Rattle.mem80.proofs.{Numbers.{remainder_in_memory}, Options.{both_are_no
 pub use Rattle.mem80.specs.declared.memory.TheConstants.{MEMORY_SIZE}
 pub use Rattle.trees.specs.{Trees.{ConstantOrigin, DeclarationTree, DeclarationTrees, DeclareTree, ElementTree, ElseTree, ItemElement, ItemTree, LiterallyElement, LocationOrigin, ModuleTree, MoreDeclarations, NoDeclarations, OffsetTree, OriginTree, ProcedureTree, RestrictedTree, StatementKindTree, StatementTree, StatementTrees, StringConstant, StringTree, SubjectTree, ValueListTree}, declared.declaration.Linkage.{Linkage, TheVariants.{External, Public}}, declared.declaration.ScalarType.{ScalarType, TheVariants.{Address, Byte}}, declared.identifier.Identifier.{Identifier}, declared.identifier.Place.{Place as WordPlace}}
 pub use Rattle.names.specs.{Environment.{into_list, is_declared_again}, DeclaredNames.{declared_by, labels_of}, declared.entity.Binding.{Binding, TheVariants.{Declared}}, declared.entity.Entity.TheVariants.{Object, Procedure}}
-pub use Rattle.typed_trees.specs.{ExpressionTypes.{type_of}, Frames.{AreParameters, HasParameters, home_of_parameters}, Globals.{ListsGlobals}, Jumps.{BodyIsSound, JumpsAreSound, ListStands}, ObjectParts.{IsPartOf, IsScalar, IsScalarOf}, Sizes.{count_of, scalars_of_element, scalars_of_elements, size_of_element, size_of_object, size_of_scalar}, Storable.{HasPlace, IsStorable}, TypedTrees.{AssignmentNode, AssignmentStatement, At, BasedOn, BinaryNode, CallNode, CallStatement, CaseStatement, ConversionNode, DoStatement, ElseStatement, Elsewhere, FunctionNode, GotoStatement, HaltStatement, Home, IfStatement, InConstants, InData, InFrame, InputNode, LabelStatement, ListNode, ListOf, LocationNode, LoopStatement, MoreArguments, MoreStatements, MoveStatement, NoArguments, NoElse, NoStatements, NoSubscript, Nowhere, NullStatement, NumberNode, ObjectType, PartOf, Placed, ReturnStatement, SentTo, ShiftNode, StoredIn, Subscript, TypedArguments, TypedElse, TypedExpression, TypedHead, TypedIteration, TypedList, TypedModule, TypedObject, TypedProcedure, TypedReference, TypedStatement, TypedStatements, TypedTarget, UnaryNode, ValueNode}, WellTyped.{Counts, HasLocation, IsReturned, IsSeen, IsWellTyped, LiesFor, RefersToLocation, RefersToScalar, Takes, TypesHold, TypesHoldIn, TypesHoldInArguments, TypesHoldInElse, TypesHoldInHead, TypesHoldInList, TypesHoldInProcedure, TypesHoldInReference, TypesHoldInStatements, TypesHoldInSubscript, TypesHoldInTarget, TypesHoldInTargets, Within, WithinMain, WithinProcedure, types_of}, declared.limits.TheConstants.{FRAME_LIMIT, OBJECT_LIMIT}, declared.parts.AtAddress.{AtAddress}, declared.parts.InitialValue.{InitialValue, TheVariants.{ByteValue, LocationValue, WordValue}}, declared.parts.Visibility.{Visibility}}
+pub use Rattle.typed_trees.specs.{ExpressionTypes.{type_of}, Frames.{AreParameters, HasParameters, home_of_parameters}, Globals.{ListsGlobals}, Jumps.{BodyIsSound, JumpsAreSound, ListStands}, ObjectParts.{IsPartOf, IsScalar, IsScalarOf}, Sizes.{count_of, scalars_of_element, scalars_of_elements, size_of_element, size_of_object, size_of_scalar}, Storable.{HasPlace, IsStorable}, TypedTrees.{AssignmentNode, AssignmentStatement, At, BasedOn, BinaryNode, CallNode, CallStatement, CaseStatement, ConversionNode, DoStatement, ElseStatement, Elsewhere, FunctionNode, GotoStatement, HaltStatement, Home, IfStatement, InConstants, InData, InFrame, InputNode, LabelStatement, ListNode, ListOf, LocationNode, LoopStatement, MoreArguments, MoreStatements, MoveStatement, NoArguments, NoElse, NoStatements, NoSubscript, Nowhere, NullStatement, NumberNode, ObjectType, PartOf, Placed, ReturnStatement, SentTo, ShiftNode, StoredIn, Subscript, TypedArguments, TypedElse, TypedExpression, TypedHead, TypedIteration, TypedList, TypedModule, TypedObject, TypedProcedure, TypedReference, TypedStatement, TypedStatements, TypedTarget, UnaryNode, ValueNode}, WellTyped.{Counts, HasLocation, IsReturned, IsSeen, IsWellTyped, LiesFor, RefersToLocation, RefersToScalar, Takes, TypesHold, TypesHoldIn, TypesHoldInArguments, TypesHoldInElse, TypesHoldInHead, TypesHoldInIteration, TypesHoldInList, TypesHoldInProcedure, TypesHoldInReference, TypesHoldInStatements, TypesHoldInSubscript, TypesHoldInTarget, TypesHoldInTargets, Within, WithinMain, WithinProcedure, types_of}, declared.limits.TheConstants.{FRAME_LIMIT, OBJECT_LIMIT}, declared.parts.AtAddress.{AtAddress}, declared.parts.InitialValue.{InitialValue, TheVariants.{ByteValue, LocationValue, WordValue}}, declared.parts.Visibility.{Visibility}}
 unfoldable pub use Rattle.typed_trees.specs.Charge.{charge_of}
 pub use Rattle.typing.proofs.{Kept.{Gives, gives_after, gives_fault, gives_ok, in_turn, is_found, required, then_more}, Parameters.Closing.{at_place}, Parameters.Opening.{opens_procedure}, Parameters.ParametersOfTexts.{Same, assignment_same, call_same, goto_same, head_same, return_same, value_same}, Tables.{keeps_append}}
 pub use Rattle.typing.specs.{Blocks.{Block, OfProcedure, Owner, Progress, TheModule, is_external, is_external_linkage, is_module, is_module_level, is_public_linkage}, Constants.{number_of_characters}, Filling.{ANumber, AsListed, Contents, Elements, Extents, Filled, FromObject, NoArray, OtherModulesToo, RestrictedValue, enough_elements, place_of_origin}, Items.{TypedItem, base_of, home_with_values, is_data, is_plain, object_named, place_of_item, place_of_storage, size_of_item, with_typed_object}, Modules.{at_the_beginning, inner_block, module_block}, Procedures.{own_block}, References.{Known, place_of as place_of_word}, Statements.{labels_before, with_here}, declared.fault.Cause.TheVariants.{DeclaredTwice, ExternalContents, MisplacedValues, NoVariable, NotByte, StringNotNumber, TooLarge}, internal.Checks.{Checked, found, require, ◌>>=◌}, internal.ConstantChecks.{number_of_constant, with_offsets}, internal.Expressions.{arguments}, internal.FillingChecks.{contents, fill, fill_characters, fill_scalar, fill_string, fill_value, restricted_value, static_bound, static_object, with_address}, internal.ItemChecks.{check_linkage, declare_element, declare_elements, declare_item, declare_names, extents_of, typed_at, typed_base, typed_contents, typed_item, typed_type, with_objects}, internal.ProcedureChecks.{check_body, parameter_objects}, internal.ReferenceChecks.{bound}, internal.StatementChecks.{declare_labels, list_of, without_label}, internal.Typing.{alone, cases, declaration, declarations, else_part, kind, labelled, statements}}

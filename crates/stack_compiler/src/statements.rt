@@ -130,7 +130,7 @@ fn emit_first(
     }
 }
 
-// The test, which compares the variable of an iterative DO with the last value.
+// The test: the condition of DO WHILE, or that the variable of an iterative DO is at most the last value.
 #[tactic(auto, using(std::proofs::lemmas::List::append_assoc))]
 fn emit_condition(
     site: &Site<'_>,
@@ -360,7 +360,7 @@ fn emit_statements(
     Ok(())
 }
 
-// DO WHILE or an iterative DO: the step and the test stand after the body.
+// A loop: the test, after the step of an iterative DO, stands after the body.
 #[cycle(statement)]
 fn emit_loop(
     site: &Site<'_>,

@@ -1,7 +1,7 @@
 -- The calls that are written in a body, by the numbers of the procedures, each as often as it is written, from
 -- left to right (in an assignment those of the value first, as they are made).
 use Rattle.std.specs.Prelude.{ℕ, List, [], ◌∷◌, ◌++◌, Option, Some, None}
-use Rattle.typed_trees.specs.TypedTrees.{TypedExpression, NumberNode, ValueNode, LocationNode, ListNode, ConversionNode, AssignmentNode, UnaryNode, BinaryNode, CallNode, FunctionNode, ShiftNode, InputNode, TypedReference, PartOf, Subscript, NoSubscript, At, TypedTarget, StoredIn, SentTo, TypedArguments, NoArguments, MoreArguments, TypedHead, WhileHead, CountHead, TypedStatement, LabelStatement, NullStatement, AssignmentStatement, CallStatement, MoveStatement, ReturnStatement, HaltStatement, GotoStatement, IfStatement, DoStatement, LoopStatement, CaseStatement, TypedElse, NoElse, ElseStatement, TypedStatements, NoStatements, MoreStatements, TypedList, ListOf}
+use Rattle.typed_trees.specs.TypedTrees.{TypedExpression, NumberNode, ValueNode, LocationNode, ListNode, ConversionNode, AssignmentNode, UnaryNode, BinaryNode, CallNode, FunctionNode, ShiftNode, InputNode, TypedReference, PartOf, Subscript, NoSubscript, At, TypedTarget, StoredIn, SentTo, TypedArguments, NoArguments, MoreArguments, TypedIteration, TypedHead, of_head, TypedStatement, LabelStatement, NullStatement, AssignmentStatement, CallStatement, MoveStatement, ReturnStatement, HaltStatement, GotoStatement, IfStatement, DoStatement, LoopStatement, CaseStatement, TypedElse, NoElse, ElseStatement, TypedStatements, NoStatements, MoreStatements, TypedList, ListOf}
 
 abbrev mutual
   -- the calls in an expression
@@ -43,9 +43,12 @@ abbrev pub calls_in_optional : Option TypedExpression → List ℕ
 calls_in_optional None = []
 calls_in_optional (Some value) = calls_in value
 
+abbrev pub calls_in_iteration : TypedIteration → List ℕ
+calls_in_iteration head = calls_in head.first ++ (calls_in head.last ++ calls_in_optional head.step)
+
+-- the calls in the head of a loop
 abbrev pub calls_in_head : TypedHead → List ℕ
-calls_in_head (WhileHead condition) = calls_in condition
-calls_in_head (CountHead head) = calls_in head.first ++ (calls_in head.last ++ calls_in_optional head.step)
+calls_in_head = of_head calls_in calls_in_iteration
 
 abbrev mutual
   -- the calls in a statement

@@ -1,6 +1,8 @@
 -- Statements of each form do what they say.
 use Rattle.statement_laws.proofs.Prelude.{slice_get, Some, ◌≡◌, Statement, StatementNumber, nodes_in, BodyContext, IsSoundBody, StatementDoes, StatementStands, StatementsDo}
+use Rattle.treecode.specs.declared.statement.LoopHead.{LoopHead}
 use Rattle.treecode.specs.declared.statement.Statement.TheVariants as statements
+use Rattle.treecode.proofs.Heads.{each_head}
 use Rattle.statement_laws.proofs.Assignments.Assigned.{assignment_does}
 use Rattle.statement_laws.proofs.Cases.CasesDo.{case_does}
 use Rattle.statement_laws.proofs.Loops.Counted.{counts_do}
@@ -41,8 +43,12 @@ statements_do at sound before number statement label from after to there stands 
     by (statements.If condition then_part else_part) there stands =
         formed there (if_does at before condition then_part else_part label from after to sound stands)
     by (statements.Do list) there stands = formed there (do_does at before list label from after to stands)
-    by (statements.While condition list) there stands =
-        formed there (while_does at before condition list label from after to sound stands)
-    by (statements.Iterate head list) there stands =
-        formed there (each_iterate_does at before head list label from after to sound stands)
+    by (statements.Loop head list) there stands =
+        formed there
+        (each_head
+        (λ (one : LoopHead). StatementStands at before (statements.Loop one list) label from after to
+        → FormDoes at before (statements.Loop one list) from after to)
+        (λ condition stands. while_does at before condition list label from after to sound stands)
+        (λ iteration stands. each_iterate_does at before iteration list label from after to sound stands)
+        head stands)
     by (statements.Case choice list) there stands = case_does at before number choice list label from after to sound there stands

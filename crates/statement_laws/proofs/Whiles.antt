@@ -1,7 +1,8 @@
 -- DO WHILE.
 use Rattle.statement_laws.proofs.Prelude.{◌≡◌, ℕ, zero, suc, ◌+◌, ◌-◌, ◌*◌, ◌%◌, ◌<◌, ◌≤◌, max, Bool, true, false, if◌then◌else◌, nat_eq, nat_lt, List, [], ◌∷◌, ◌++◌, Option, Some, None, refl, sym, ap, subst, ◌∙◌, arith, ltb-false, height_of, height_of_list, ListStands, TypedExpression, TypedList, TypedStatements, ListOf, LoopStatement, TypesHold, TypesHoldInList, Later, LoopTurn, after_turn, done, done_list, going_on, value, SourceState, Outcome, Gave, then_do, taking_one, Flow, Onward, Returned, Jumped, is_true, again_is, Nop, Registers, State, AtLabel, Jump, ExpressionNumber, Range, AreNoStatements, AreStatements, IsExpressionIn, IsList, IsListOf, HasRoom, IsReady, IsThere, Does, at_place, plain_step, word_step, after_step, does_without_step, then_does, no_facts_hold, Facts, LabelNumber, after_form, no_facts, label_of, jump_item, Site, number, knowing, branch, forever_steps, tested_while_steps, jump, mark, nth_label, Here, jump_on_steps, site_of, statement_steps, nodes_in, StepsStand, JumpThere, NoneThere, BranchDoes, Goes, Know, PartDoes, Parts, Passes, number_means, does_same, loaded_in, script_of, Behaves, BodyContext, IsSoundBody, Leaves, ListDoes, StatementStands, room_for}
 use Rattle.typed_trees.specs.TypedTrees.{WhileHead}
-use Rattle.treecode.specs.internal.Lowered.{IsWhile}
+use Rattle.treecode.specs.internal.Lowered.{IsLoop, IsWhileHead}
+use Rattle.treecode.specs.declared.statement.LoopHead.TheVariants as heads
 use Rattle.treecode.specs.declared.statement.Statement.TheVariants as statements
 use Rattle.statements8080.specs.declared.plan.Planned.TheVariants as planned
 use Rattle.statement_laws.proofs.FirstSteps.{Stand, steps_ended, going, jump_first, jump_on_first, list_first, mark_first, part_first, plain_first, reaches_first}
@@ -232,9 +233,10 @@ tested_does :
     (after : Here) (to : ℕ)
     → IsSoundBody at
     → Stand at (going true before) None from (tested_while_steps condition list label) after to
-    → FormDoes at before (statements.While condition list) from after to
+    → FormDoes at before (statements.Loop (heads.While condition) list) from after to
 tested_does at before condition list label from after to sound stands bound _
-    (IsWhile {test = test} {list = body} is is_list) types lists base s r memory below room ready known =
+    (IsLoop {list = body} (IsWhileHead {test = test} is) is_list) types lists base s r memory below
+    room ready known =
     by (nat_lt 0 list.count) refl stands
   where
     need : ℕ
@@ -355,11 +357,12 @@ pub while_does :
     (at : BodyContext) (before : Facts) (condition : ExpressionNumber) (list : Range) (label from : ℕ)
     (after : Here) (to : ℕ)
     → IsSoundBody at
-    → StatementStands at before (statements.While condition list) label from after to
-    → FormDoes at before (statements.While condition list) from after to
+    → StatementStands at before (statements.Loop (heads.While condition) list) label from after to
+    → FormDoes at before (statements.Loop (heads.While condition) list) from after to
 unfolding statement_steps
 while_does at before condition list label from after to sound stands bound _
-    (IsWhile {test = test} {list = body} is is_list) types lists base s r memory below room ready known =
+    (IsLoop {list = body} (IsWhileHead {test = test} is) is_list) types lists base s r memory below
+    room ready known =
     by (number (knowing (site_of at.body) before) condition) refl stands
   where
     at_site : (found : Option ℕ) → number (knowing (site_of at.body) before) condition ≡ found
@@ -402,5 +405,5 @@ while_does at before condition list label from after to sound stands bound _
     by (Some n) same stand = by_number n (is_true n) same refl stand
     by None same stand =
         tested_does at before condition list label from after to sound stand bound
-        (LoopStatement (WhileHead test) body) (IsWhile is is_list)
+        (LoopStatement (WhileHead test) body) (IsLoop (IsWhileHead is) is_list)
         types lists base s r memory below room ready known

@@ -132,7 +132,7 @@ impl Shape {
 }
 
 impl Shape {
-    // The head of a loop, from its own word on.
+    // The head of a loop: WHILE and its condition, or FROM and the parts of an iteration.
     fn head(&mut self, head: &LoopHead) {
         match head {
             LoopHead::While(condition) => {

@@ -20,7 +20,7 @@ pub use Rattle.asm8080.proofs.{Calls.{IsPushed, pushed, pushed as pushed_memory,
 pub use Rattle.asm8080.specs.{Items.{Layout, instruction_with, size_of}, Standing.{AgreesIn, InstructionStands, below, size_of_instruction}, declared.item.Item.{Item}, declared.item.Reference.TheVariants.{AtLabel}, declared.item.WordForm.{WordForm, TheVariants.{CallTo, LoadA, LoadHl, LoadPair, StoreA, StoreHl}}}
 pub use Rattle.runtime8080.proofs.{AddressBits.{by_eight, half_small, halves, none_left, quarter_high_small, quarter_low_small, quarters, turned_small}, Bits.{equal_below, none_right, shift_left, shifted_left, times, turn_left, turn_right, turned_left, turned_right}}
 pub use Rattle.treecode.proofs.KeptValues.{known_kept, node_traits}
-pub use Rattle.treecode.specs.{internal.Homes.{frame_number, home_after, home_of_object, homes_from, location_after, number_of_place, place_after}, internal.Known.{converted_address, converted_place, function_of_place, known_distance, known_number, known_subscript, known_value, place_of_part, result_of_known, result_of_place, shift_of_known}, internal.Lowered.{AreArguments, AreMore, AreMoreStatements, AreNoStatements, AreNone, AreStatements, AreTargets, IsAbsent, IsAssignment, IsBinary, IsCall, IsCallOf, IsCase, IsConstantList, IsConversion, IsDo, IsElse, IsEmbedded, IsExpression, IsForm, IsFunction, IsGoto, IsHalt, IsIf, IsIndex, IsInput, IsIteration, IsLabel, IsList, IsListOf, IsLocation, IsLowered, IsMove, IsNoElse, IsNoValue, IsNode, IsNull, IsNumber, IsOptional, IsPart, IsReference, IsReturn, IsSent, IsShift, IsSomeElse, IsSomeValue, IsStatement, IsStatementForm, IsStatementNode, IsStored, IsStored as IsStoredIn, IsSubscript, IsTarget, IsUnary, IsValue, MoreTargets, NoTargets}, internal.Nodes.{Nodes, NumbersAreWords, home_at, nodes_of}, internal.Queries.{argument, home, inside, none_kept, place_number, source}, internal.Resolved.{HaveOperands, PartHasOperands, SubscriptHasOperands}, internal.Traits.{KeepTraits, byte_after, distance_of, form_at, free_at, has_immediate, is_direct, is_free_form, is_free_of, is_free_with, is_of_low_byte, is_quiet_form, is_static_location, keeps_at, keeps_none, keeps_of, keeps_of_binary, keeps_of_byte, keeps_of_extended, keeps_of_form, keeps_of_index, keeps_of_part, keeps_of_shift, keeps_of_subscript, keeps_of_sum, known_at, known_of, memory_of_form, memory_of_inner, no_traits, number_at, place_of_reference, quiet_at, reference_is_quiet, same_low_byte, storing_nothing_at, subscript_is_quiet, traits_at}, declared.expression.Expression.{Expression}, declared.expression.ExpressionForm.{ExpressionForm}, declared.expression.ExpressionNumber.{ExpressionNumber}, declared.lists.Range.{Range}, declared.module.TreeModule.{TreeModule}, declared.place.Home.{Home}, declared.place.Location.{Location, TheVariants.{Static}}, declared.place.Place.{Place, TheVariants.{Code, Data, External, Number}}, declared.procedure.ProcedureKind.{ProcedureKind}, declared.procedure.TreeProcedure.{TreeProcedure}, declared.reference.Reference.{Reference}, declared.reference.Subscript.{Subscript as IndexNode}, declared.reference.Target.{Target, TheVariants.{Sent, Stored}}, declared.statement.Iteration.{Iteration}, declared.statement.Statement.{Statement}, declared.statement.StatementNumber.{StatementNumber}, declared.traits.Keeps.{Keeps}, declared.traits.Traits.{Traits}}
+pub use Rattle.treecode.specs.{internal.Homes.{frame_number, home_after, home_of_object, homes_from, location_after, number_of_place, place_after}, internal.Known.{converted_address, converted_place, function_of_place, known_distance, known_number, known_subscript, known_value, place_of_part, result_of_known, result_of_place, shift_of_known}, internal.Lowered.{AreArguments, AreMore, AreMoreStatements, AreNoStatements, AreNone, AreStatements, AreTargets, IsAbsent, IsAssignment, IsBinary, IsCall, IsCallOf, IsCase, IsConstantList, IsConversion, IsDo, IsElse, IsEmbedded, IsExpression, IsForm, IsFunction, IsIf, IsIndex, IsInput, IsIteration, IsList, IsListOf, IsLocation, IsLowered, IsMove, IsNoElse, IsNoValue, IsNode, IsNumber, IsOptional, IsPart, IsReference, IsReturn, IsSent, IsShift, IsSomeElse, IsSomeValue, IsStatement, IsStatementForm, IsStatementNode, IsStored, IsStored as IsStoredIn, IsSubscript, IsTarget, IsUnary, IsValue, MoreTargets, NoTargets}, internal.Nodes.{Nodes, NumbersAreWords, home_at, nodes_of}, internal.Queries.{argument, home, inside, none_kept, place_number, source}, internal.Resolved.{HaveOperands, PartHasOperands, SubscriptHasOperands}, internal.Traits.{KeepTraits, byte_after, distance_of, form_at, free_at, has_immediate, is_direct, is_free_form, is_free_of, is_free_with, is_of_low_byte, is_quiet_form, is_static_location, keeps_at, keeps_none, keeps_of, keeps_of_binary, keeps_of_byte, keeps_of_extended, keeps_of_form, keeps_of_index, keeps_of_part, keeps_of_shift, keeps_of_subscript, keeps_of_sum, known_at, known_of, memory_of_form, memory_of_inner, no_traits, number_at, place_of_reference, quiet_at, reference_is_quiet, same_low_byte, storing_nothing_at, subscript_is_quiet, traits_at}, declared.expression.Expression.{Expression}, declared.expression.ExpressionForm.{ExpressionForm}, declared.expression.ExpressionNumber.{ExpressionNumber}, declared.lists.Range.{Range}, declared.module.TreeModule.{TreeModule}, declared.place.Home.{Home}, declared.place.Location.{Location, TheVariants.{Static}}, declared.place.Place.{Place, TheVariants.{Code, Data, External, Number}}, declared.procedure.ProcedureKind.{ProcedureKind}, declared.procedure.TreeProcedure.{TreeProcedure}, declared.reference.Reference.{Reference}, declared.reference.Subscript.{Subscript as IndexNode}, declared.reference.Target.{Target, TheVariants.{Sent, Stored}}, declared.statement.Iteration.{Iteration}, declared.statement.Statement.{Statement}, declared.statement.StatementNumber.{StatementNumber}, declared.traits.Keeps.{Keeps}, declared.traits.Traits.{Traits}}
 unfoldable pub use Rattle.treecode.specs.{internal.Homes.{homes_of}, internal.Traits.{traits_of}}
 pub use Rattle.treecode_laws.proofs.{Evaluating.{quiet_base, quiet_computed, quiet_gave, quiet_scalar}, Exchanging.{exchanged, in_order as evaluated_in_order, in_order}, KeptTraits.{quiet_kept}, Operands.{known_gives, operands_exchanged}, QuietTrees.{quiet_value}}
 pub use Rattle.treecode_laws.proofs.FreeNodes.{from_number, from_value}

@@ -1,12 +1,11 @@
 -- Lowering a statement adds nodes that represent it, and keeps the nodes before.
-use Rattle.treecode.proofs.Prelude.{◌≡◌, ℕ, suc, ◌+◌, ◌<◌, min, max, Bool, true, false, ◌||◌, List, [], ◌∷◌, ◌++◌, length, Option, Some, None, slice_get, unwrap_or, refl, sym, ap, ◌∙◌, subst, arith, Any, append_assoc, append-nil, height_of, height_of_else, height_of_iteration, height_of_list, height_of_optional, height_of_statement, height_of_statements, height_of_targets, IsAmongLabels, JumpsStay, JumpsStayInElse, JumpsStayInList, JumpsStayInStatements, LabelsOf, ListStands, ListsStand, ListsStandInElse, labels_of_list, TypedExpression, TypedTarget, TypedArguments, TypedIteration, TypedStatement, LabelStatement, NullStatement, AssignmentStatement, CallStatement, MoveStatement, ReturnStatement, HaltStatement, GotoStatement, IfStatement, DoStatement, LoopStatement, CaseStatement, TypedElse, NoElse, ElseStatement, TypedStatements, NoStatements, MoreStatements, TypedList, ListOf, Storage, ExpressionNumber, Home, Place, Iteration, Statement, StatementNumber, AddedList, AddedStatement, known_number, known_value, IsStatement, IsStatementNode, IsStatementForm, IsLabel, IsNull, IsAssignment, IsCall, IsMove, IsReturn, IsHalt, IsGoto, IsIf, IsDo, IsCase, IsElse, IsNoElse, IsSomeElse, AreStatements, AreNoStatements, AreMoreStatements, IsList, IsListOf, ends_by, labels_numbered, labels_numbered_in_else, labels_numbered_in_list, labels_numbered_in_statements, numbers_from, reaches_end, reaches_end_of_else, reaches_end_of_list, reaches_end_of_statements, Nodes, KeepTraits, height_at, known_at, number_at, Holds, Items, Walk, assigned_in, call_in, either_ends, else_in, height_of_move, items_after, items_in, iteration_in, label_in, list_in, moved_in, noted, number_of_added, numbered, optional_in, put_case, put_do, put_if, put_iterate, put_list, put_statement, put_while, returned_in, statement_in, targets_in, value_in, got_first}
-use Rattle.typed_trees.specs.TypedTrees.{WhileHead, CountHead}
-use Rattle.treecode.specs.internal.Lowered.{IsIterate, IsWhile}
+use Rattle.treecode.proofs.Prelude.{◌≡◌, ℕ, suc, ◌+◌, ◌<◌, min, max, Bool, true, false, ◌||◌, List, [], ◌∷◌, ◌++◌, length, Option, Some, None, slice_get, unwrap_or, refl, sym, ap, ◌∙◌, subst, arith, Any, append_assoc, append-nil, height_of, height_of_else, height_of_head, height_of_list, height_of_optional, height_of_statement, height_of_statements, height_of_targets, IsAmongLabels, JumpsStay, JumpsStayInElse, JumpsStayInList, JumpsStayInStatements, LabelsOf, ListStands, ListsStand, ListsStandInElse, labels_of_list, TypedExpression, TypedTarget, TypedArguments, TypedHead, TypedStatement, LabelStatement, NullStatement, AssignmentStatement, CallStatement, MoveStatement, ReturnStatement, HaltStatement, GotoStatement, IfStatement, DoStatement, LoopStatement, CaseStatement, TypedElse, NoElse, ElseStatement, TypedStatements, NoStatements, MoreStatements, TypedList, ListOf, Storage, ExpressionNumber, Home, LoopHead, Statement, StatementNumber, AddedList, AddedStatement, IsStatement, IsStatementNode, IsStatementForm, IsLabel, IsNull, IsAssignment, IsCall, IsMove, IsReturn, IsHalt, IsGoto, IsIf, IsDo, IsLoop, IsCase, IsElse, IsNoElse, IsSomeElse, AreStatements, AreNoStatements, AreMoreStatements, IsList, IsListOf, labels_numbered, labels_numbered_in_else, labels_numbered_in_list, labels_numbered_in_statements, numbers_from, reaches_end, reaches_end_of_else, reaches_end_of_list, reaches_end_of_statements, Nodes, KeepTraits, height_at, Holds, Items, Walk, assigned_in, call_in, either_ends, else_in, height_of_move, items_after, items_in, head_in, label_in, list_in, loop_ends, moved_in, noted, number_of_added, numbered, optional_in, put_case, put_do, put_if, put_list, put_loop, put_statement, returned_in, statement_in, targets_in, value_in, got_first}
 use Rattle.treecode.specs.declared.statement.Statement.TheVariants as statements
 use Rattle.treecode.proofs.AddedExpressions.{AreSound, AsExpression, Leads, found_after, leads_nowhere, leads_on, one_more, sound_after}
-use Rattle.treecode.proofs.AddedValues.{AsIteration, AsOptional, AsTargets, Noted, Steps, call_added, iteration_added, optional_added, same_steps, steps_nowhere, steps_on, targets_added, value_added}
-use Rattle.treecode.proofs.Grown.{expression_in_stays, holds_with_more, iteration_stays, statement_form_stays, statement_stays}
-use Rattle.treecode.proofs.KeptValues.{height_kept, known_kept}
+use Rattle.treecode.proofs.AddedValues.{AsOptional, AsTargets, Noted, Steps, call_added, optional_added, same_steps, steps_nowhere, steps_on, targets_added, value_added}
+use Rattle.treecode.proofs.Grown.{expression_in_stays, head_stays, holds_with_more, statement_form_stays, statement_stays}
+use Rattle.treecode.proofs.Heads.{AsHead, ends_as_tree, head_added}
+use Rattle.treecode.proofs.KeptValues.{height_kept}
 use Rattle.treecode.proofs.LabelNumbers.{AreNumbered, HasNumber, Knows, LabelIsAround, StandAround, cases_stand, knows_after, knows_list, labels_numbered_from, labels_stand, no_label_around}
 use Rattle.treecode.proofs.Maxima.{nothing_higher, two_heights}
 
@@ -299,14 +298,6 @@ module _ (storage : Storage) where
       (statements.Return (optional_in storage walk tree).1)
       false (ReturnStatement tree) refl knows added.steps refl (λ total holds. IsReturn added.is)
 
-  condition_ends : (nodes : Nodes) (homes : List Home) (number : ExpressionNumber) (tree : TypedExpression)
-      → AreSound nodes → nodes.homes ≡ homes → AsExpression storage tree nodes number
-      → ends_by (known_number (known_at nodes number))
-      ≡ ends_by (known_number (known_value homes storage tree))
-  condition_ends nodes homes number tree sound same is =
-      ap (λ (known : Option Place). ends_by (known_number known)) (known_kept nodes storage sound.keeps is)
-      ∙ ap (λ (starts : List Home). ends_by (known_number (known_value starts storage tree))) same
-
   chosen : (walk : Walk) (known : List ℕ) (around : List LabelsOf) (test : TypedExpression)
       (then_tree : TypedStatement)
       (else_tree : TypedElse) (condition : Walk × ExpressionNumber) (body : Walk × AddedStatement)
@@ -370,43 +361,22 @@ module _ (storage : Storage) where
       (made.1).reaches_its_end (DoStatement list)
       is.leads is.knows is.height is.ends (λ total holds. IsDo (is.is total holds))
 
-  repeated : (walk : Walk) (known : List ℕ) (around : List LabelsOf)
-      (test : TypedExpression) (list : TypedList)
-      (condition : Walk × ExpressionNumber) (made : Walk × AddedList)
-      → Noted (AsExpression storage test) walk condition (height_of test)
-      → ListIs storage condition.0 known around made list
-      → StatementIs storage walk known around (put_while condition.1 made)
-      (LoopStatement (WhileHead test) list)
-  repeated walk known around test list condition made value is =
-      let here : AsExpression storage test (made.0).nodes condition.1
-      = expression_in_stays (condition.0).nodes (made.0).nodes storage is.leads.grows value.is in
-      put_is walk made.0 known around (statements.While condition.1 (made.1).range)
-      (ends_by (number_at (made.0).nodes condition.1)) (LoopStatement (WhileHead test) list)
-      (leads_on value.steps.leads is.leads) is.knows
-      (two_heights walk.height (height_of test) (height_of_list list) (condition.0).height (made.0).height
-      value.steps.height is.height)
-      (condition_ends (made.0).nodes (walk.nodes).homes condition.1 test is.leads.sound
-      (is.leads.homes ∙ value.steps.leads.homes) here)
-      (λ total holds. IsWhile here (is.is total holds))
-
-  iterated : (walk : Walk) (known : List ℕ) (around : List LabelsOf)
-      (tree : TypedIteration) (list : TypedList)
-      (head : Walk × Iteration) (made : Walk × AddedList)
-      → Noted (AsIteration storage tree) walk head (height_of_iteration tree)
+  repeated : (walk : Walk) (known : List ℕ) (around : List LabelsOf) (tree : TypedHead) (list : TypedList)
+      (head : Walk × LoopHead) (made : Walk × AddedList)
+      → Noted (AsHead storage tree) walk head (height_of_head tree)
       → ListIs storage head.0 known around made list
-      → StatementIs storage walk known around (put_iterate head.1 made)
-      (LoopStatement (CountHead tree) list)
-  iterated walk known around tree list head made value is =
-      put_is walk made.0 known around (statements.Iterate head.1 (made.1).range) true
-      (LoopStatement (CountHead tree) list)
+      → StatementIs storage walk known around (put_loop head.1 made) (LoopStatement tree list)
+  repeated walk known around tree list head made value is =
+      let here : AsHead storage tree (made.0).nodes head.1
+      = head_stays (head.0).nodes (made.0).nodes storage is.leads.grows value.is in
+      put_is walk made.0 known around (statements.Loop head.1 (made.1).range)
+      (loop_ends (made.0).nodes head.1) (LoopStatement tree list)
       (leads_on value.steps.leads is.leads) is.knows
-      (two_heights walk.height (height_of_iteration tree) (height_of_list list)
-      (head.0).height (made.0).height
+      (two_heights walk.height (height_of_head tree) (height_of_list list) (head.0).height (made.0).height
       value.steps.height is.height)
-      refl
-      (λ total holds. IsIterate (iteration_stays (head.0).nodes (made.0).nodes storage
-      is.leads.grows value.is)
-      (is.is total holds))
+      (ends_as_tree storage (made.0).nodes (walk.nodes).homes head.1 tree is.leads.sound
+      (is.leads.homes ∙ value.steps.leads.homes) here)
+      (λ total holds. IsLoop here (is.is total holds))
 
   cased : (walk : Walk) (known : List ℕ) (around : List LabelsOf) (tree : TypedExpression)
       (trees : TypedStatements)
@@ -599,18 +569,10 @@ module _ (storage : Storage) where
     statement_added walk known around (DoStatement list) sound knows jumps is_around stand =
         done walk known around (list_in storage walk list) list
         (list_added walk known around list sound knows jumps stand)
-    statement_added walk known around (LoopStatement (WhileHead test) list) sound knows
-        jumps is_around stand =
-        let value : _ = value_added storage walk test sound in
-        let given : Walk = (value_in storage walk test).0 in
-        repeated walk known around test list (value_in storage walk test) (list_in storage given list) value
-        (list_added given known around list value.steps.leads.sound knows jumps stand)
-    statement_added walk known around (LoopStatement (CountHead tree) list) sound knows
-        jumps is_around stand =
-        let value : _ = iteration_added storage walk tree sound in
-        let given : Walk = (iteration_in storage walk tree).0 in
-        iterated walk known around tree list (iteration_in storage walk tree)
-        (list_in storage given list) value
+    statement_added walk known around (LoopStatement tree list) sound knows jumps is_around stand =
+        let value : _ = head_added storage walk tree sound in
+        let given : Walk = (head_in storage walk tree).0 in
+        repeated walk known around tree list (head_in storage walk tree) (list_in storage given list) value
         (list_added given known around list value.steps.leads.sound
         (knows_steps value.steps knows) jumps stand)
     statement_added walk known around (CaseStatement tree trees) sound knows jumps is_around stand =

@@ -1,7 +1,6 @@
 -- Each part of an expression or a statement has a lower number than the whole, and the items of a list are in
 -- the table. The walk over a body tests this at each step.
-use Rattle.treecode.proofs.Prelude.{◌≡◌, ℕ, zero, suc, ◌+◌, ◌<◌, Bool, List, length, Option, Some, None, slice_get, cond, sym, ap, ◌∙◌, subst, arith, option_and_then, lt-ltb, same_Some, TypedExpression, TypedElse, TypedList, TypedProcedure, TypedStatement, TypedStatements, Storage, Expression, Range, TreeProcedure, Statement, StatementNumber, HasBody, IsExpression, IsNode, IsStatement, IsStatementNode, IsStatementForm, IsIf, IsDo, IsCase, IsElse, IsNoElse, IsSomeElse, AreStatements, AreNoStatements, AreMoreStatements, IsList, IsListOf, Nodes, item_of}
-use Rattle.treecode.specs.internal.Lowered.{IsIterate, IsWhile}
+use Rattle.treecode.proofs.Prelude.{◌≡◌, ℕ, zero, suc, ◌+◌, ◌<◌, Bool, List, length, Option, Some, None, slice_get, cond, sym, ap, ◌∙◌, subst, arith, option_and_then, lt-ltb, same_Some, TypedExpression, TypedElse, TypedList, TypedProcedure, TypedStatement, TypedStatements, Storage, Expression, Range, TreeProcedure, Statement, StatementNumber, HasBody, IsExpression, IsNode, IsStatement, IsStatementNode, IsStatementForm, IsIf, IsDo, IsLoop, IsCase, IsElse, IsNoElse, IsSomeElse, AreStatements, AreNoStatements, AreMoreStatements, IsList, IsListOf, Nodes, item_of}
 use Rattle.treecode.specs.declared.statement.Statement.TheVariants as statements
 pub use Rattle.treecode.specs.internal.Rising.{PartsAreBelow, ReferenceIsBelow, SubscriptIsBelow, TargetIsBelow}
 use Rattle.treecode.proofs.AddedExpressions.{parts_below}
@@ -21,8 +20,7 @@ abbrev pub StatementsAreBelow : Nodes → (bound : ℕ) → Statement → Type 0
 StatementsAreBelow nodes bound (statements.If condition body otherwise) =
     (body.index < bound) × ElseIsBelow bound otherwise
 StatementsAreBelow nodes bound (statements.Do range) = ItemsAreBelow nodes bound range
-StatementsAreBelow nodes bound (statements.While condition range) = ItemsAreBelow nodes bound range
-StatementsAreBelow nodes bound (statements.Iterate head range) = ItemsAreBelow nodes bound range
+StatementsAreBelow nodes bound (statements.Loop head range) = ItemsAreBelow nodes bound range
 StatementsAreBelow nodes bound (statements.Case choice range) = ItemsAreBelow nodes bound range
 StatementsAreBelow nodes bound statement = Unit {0}
 
@@ -77,8 +75,7 @@ module _ {nodes : Nodes} {storage : Storage} {labels : List ℕ} where
       → IsStatementForm nodes storage labels bound statement tree → StatementsAreBelow nodes bound statement
   form_below (IsIf condition body otherwise) = (statement_below body, else_below otherwise)
   form_below (IsDo list) = list_below list
-  form_below (IsWhile condition list) = list_below list
-  form_below (IsIterate head list) = list_below list
+  form_below (IsLoop head list) = list_below list
   form_below (IsCase choice are) = items_below are
   form_below form = tt
 

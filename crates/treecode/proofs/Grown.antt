@@ -1,6 +1,5 @@
 -- Nodes are kept when others are added after them.
-use Rattle.treecode.proofs.Prelude.{◌≡◌, ℕ, zero, suc, ◌≤◌, List, [], ◌∷◌, ◌++◌, length, Option, Some, None, subst, arith, TypedExpression, TypedReference, Subscript, TypedTarget, TypedArguments, TypedStatement, TypedElse, TypedStatements, TypedList, TypedIteration, Storage, ExpressionForm, ExpressionNumber, Range, Reference, IndexNode, Target, Iteration, Statement, StatementNumber, IsExpression, IsNode, IsForm, IsNumber, IsValue, IsLocation, IsConstantList, IsConversion, IsEmbedded, IsUnary, IsBinary, IsCallOf, IsFunction, IsShift, IsInput, IsReference, IsPart, IsSubscript, IsAbsent, IsIndex, IsTarget, IsStored, IsSent, AreArguments, AreNone, AreMore, IsExpressionIn, IsOptional, IsNoValue, IsSomeValue, AreTargets, NoTargets, MoreTargets, IsIteration, IsStatement, IsStatementNode, IsStatementForm, IsLabel, IsNull, IsAssignment, IsCall, IsMove, IsReturn, IsHalt, IsGoto, IsIf, IsDo, IsCase, IsElse, IsNoElse, IsSomeElse, AreStatements, AreNoStatements, AreMoreStatements, IsList, IsListOf, Nodes, Grows, Holds}
-use Rattle.treecode.specs.internal.Lowered.{IsIterate, IsWhile}
+use Rattle.treecode.proofs.Prelude.{◌≡◌, ℕ, zero, suc, ◌≤◌, List, [], ◌∷◌, ◌++◌, length, Option, Some, None, subst, arith, TypedExpression, TypedReference, Subscript, TypedTarget, TypedArguments, TypedStatement, TypedElse, TypedStatements, TypedList, TypedIteration, TypedHead, Storage, ExpressionForm, ExpressionNumber, Range, Reference, IndexNode, Target, Iteration, LoopHead, Statement, StatementNumber, IsExpression, IsNode, IsForm, IsNumber, IsValue, IsLocation, IsConstantList, IsConversion, IsEmbedded, IsUnary, IsBinary, IsCallOf, IsFunction, IsShift, IsInput, IsReference, IsPart, IsSubscript, IsAbsent, IsIndex, IsTarget, IsStored, IsSent, AreArguments, AreNone, AreMore, IsExpressionIn, IsOptional, IsNoValue, IsSomeValue, AreTargets, NoTargets, MoreTargets, IsIteration, IsHead, IsWhileHead, IsCountHead, IsStatement, IsStatementNode, IsStatementForm, IsLabel, IsNull, IsAssignment, IsCall, IsMove, IsReturn, IsHalt, IsGoto, IsIf, IsDo, IsLoop, IsCase, IsElse, IsNoElse, IsSomeElse, AreStatements, AreNoStatements, AreMoreStatements, IsList, IsListOf, Nodes, Grows, Holds}
 
 abbrev IsNothing : {A : Type 0} → Option A → Type 0
 IsNothing None = Unit {0}
@@ -95,6 +94,11 @@ module _ (before after : Nodes) (storage : Storage) (grows : Grows before after)
     step = optional_stays is.step;
   }
 
+  pub head_stays : {head : LoopHead} {tree : TypedHead} → IsHead before storage head tree
+      → IsHead after storage head tree
+  head_stays (IsWhileHead condition) = IsWhileHead (expression_in_stays condition)
+  head_stays (IsCountHead iteration) = IsCountHead (iteration_stays iteration)
+
   module _ (labels : List ℕ) where
     mutual
       -- a statement remains the same tree
@@ -124,10 +128,7 @@ module _ (before after : Nodes) (storage : Storage) (grows : Grows before after)
           IsIf (expression_in_stays condition) (statement_stays greater up body)
           (else_stays greater up otherwise)
       statement_form_stays greater up (IsDo list) = IsDo (list_stays greater up list)
-      statement_form_stays greater up (IsWhile condition list) =
-          IsWhile (expression_in_stays condition) (list_stays greater up list)
-      statement_form_stays greater up (IsIterate head list) =
-          IsIterate (iteration_stays head) (list_stays greater up list)
+      statement_form_stays greater up (IsLoop head list) = IsLoop (head_stays head) (list_stays greater up list)
       statement_form_stays greater up (IsCase choice statements) =
           IsCase (expression_in_stays choice) (statements_stay greater up statements)
 

@@ -13,6 +13,7 @@ pub mod PutNodes
 pub mod ArgumentLoop
 pub mod LabelNumbers
 pub mod AddedValues
+pub mod Heads
 pub mod AddedStatements
 pub mod NumberTables
 pub mod LabelLoop

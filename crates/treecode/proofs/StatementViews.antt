@@ -1,7 +1,5 @@
 -- The views of statements with lists, and the nodes added for them, step by step.
-use Rattle.treecode.proofs.Prelude.{◌≡◌, Bool, true, Result, IfOk, sym, ap, ◌∙◌, subst, arith, the_lemmas, TypedExpression, TypedHead, TypedIteration, TypedStatement, TypedStatements, TypedList, DoStatement, LoopStatement, CaseStatement, expression_view, head_view, list_view, statement_view, statements_view, Storage, ExpressionNumber, Iteration, AddedList, AddedStatement, ends_by, number_at, Walk, iteration_in, list_in, put_case, put_do, put_iterate, put_statement, put_while, statement_in, statements_in, value_in}
-use Rattle.typed_trees.specs.TypedTrees.{WhileHead, CountHead}
-use Rattle.typed_trees.specs.declared.statement.TypedHead.{TypedHead as Head}
+use Rattle.treecode.proofs.Prelude.{◌≡◌, Bool, true, Result, IfOk, sym, ap, ◌∙◌, subst, arith, the_lemmas, TypedExpression, TypedHead, TypedStatement, TypedStatements, TypedList, DoStatement, LoopStatement, CaseStatement, expression_view, head_view, list_view, statement_view, statements_view, Storage, ExpressionNumber, LoopHead, AddedList, AddedStatement, Walk, head_in, list_in, loop_ends, put_case, put_do, put_loop, put_statement, statement_in, statements_in, value_in}
 use Rattle.typed_trees.specs.declared.statement.TypedStatement.{TypedStatement as Statement}
 use Rattle.typed_trees.specs.declared.statement.TypedStatement.TheVariants as variants
 use Rattle.typed_trees.proofs.Views.{statement_rows_are}
@@ -25,25 +23,16 @@ module _ (storage : Storage) (walk : Walk) where
       ≡ put_statement made (statements.Do range.range) range.reaches_its_end
   do_made list made range e = ap put_do e
 
-  while_made : (tree : TypedExpression) (list : TypedList) (given : Walk) (condition : ExpressionNumber)
-      (made : Walk) (range : AddedList) (ends : Bool)
-      → value_in storage walk tree ≡ (given, condition) → list_in storage given list ≡ (made, range)
-      → ends ≡ ends_by (number_at made.nodes condition)
-      → statement_in storage walk (LoopStatement (WhileHead tree) list)
-      ≡ put_statement made (statements.While condition range.range) ends
-  while_made tree list given condition made range ends e f is =
-      ap (λ (one : Walk × ExpressionNumber). put_while one.1 (list_in storage one.0 list)) e
-      ∙ ap (put_while condition) f
-      ∙ ap (put_statement made (statements.While condition range.range)) (sym is)
-
-  iterate_made : (tree : TypedIteration) (list : TypedList) (given : Walk) (head : Iteration) (made : Walk)
-      (range : AddedList)
-      → iteration_in storage walk tree ≡ (given, head) → list_in storage given list ≡ (made, range)
-      → statement_in storage walk (LoopStatement (CountHead tree) list)
-      ≡ put_statement made (statements.Iterate head range.range) true
-  iterate_made tree list given head made range e f =
-      ap (λ (one : Walk × Iteration). put_iterate one.1 (list_in storage one.0 list)) e
-      ∙ ap (put_iterate head) f
+  loop_made : (tree : TypedHead) (list : TypedList) (given : Walk) (head : LoopHead) (made : Walk)
+      (range : AddedList) (ends : Bool)
+      → head_in storage walk tree ≡ (given, head) → list_in storage given list ≡ (made, range)
+      → ends ≡ loop_ends made.nodes head
+      → statement_in storage walk (LoopStatement tree list)
+      ≡ put_statement made (statements.Loop head range.range) ends
+  loop_made tree list given head made range ends e f is =
+      ap (λ (one : Walk × LoopHead). put_loop one.1 (list_in storage one.0 list)) e
+      ∙ ap (put_loop head) f
+      ∙ ap (put_statement made (statements.Loop head range.range)) (sym is)
 
   case_made : (tree : TypedExpression) (trees : TypedStatements) (given : Walk) (choice : ExpressionNumber)
       (made : Walk) (range : AddedList)
@@ -82,40 +71,16 @@ module _ {E : Type 0} (result : Result AddedStatement E) (storage : Storage) (wa
       (put_statement made (statements.Do range.range) range.reaches_its_end)
       (do_made storage walk list made range e) put)
 
-  head_returned : (of : Head) (head : TypedHead) (list : TypedList)
-      → head_view of ≡ head
-      → Gives result now (statement_in storage walk (LoopStatement head list))
-      → Gives result now (statement_in storage walk (LoopStatement (head_view of) list))
-  head_returned of head list is given =
-      subst (λ (one : TypedHead). Gives result now (statement_in storage walk (LoopStatement one list)))
-      (sym is) given
-
-  pub while_returned : (of : Head) (tree : TypedExpression) (list : TypedList) (given : Walk)
-      (condition : ExpressionNumber)
-      (made : Walk) (range : AddedList) (ends : Bool)
-      → head_view of ≡ WhileHead tree
-      → value_in storage walk tree ≡ (given, condition) → list_in storage given list ≡ (made, range)
-      → ends ≡ ends_by (number_at made.nodes condition)
-      → Gives result now (put_statement made (statements.While condition range.range) ends)
-      → Gives result now (statement_in storage walk (LoopStatement (head_view of) list))
-  while_returned of tree list given condition made range ends head e f is put =
-      head_returned of (WhileHead tree) list head
-      (on_path result now (statement_in storage walk (LoopStatement (WhileHead tree) list))
-      (put_statement made (statements.While condition range.range) ends)
-      (while_made storage walk tree list given condition made range ends e f is) put)
-
-  pub iterate_returned : (of : Head) (tree : TypedIteration) (list : TypedList) (given : Walk)
-      (head : Iteration) (made : Walk)
-      (range : AddedList)
-      → head_view of ≡ CountHead tree
-      → iteration_in storage walk tree ≡ (given, head) → list_in storage given list ≡ (made, range)
-      → Gives result now (put_statement made (statements.Iterate head range.range) true)
-      → Gives result now (statement_in storage walk (LoopStatement (head_view of) list))
-  iterate_returned of tree list given head made range is e f put =
-      head_returned of (CountHead tree) list is
-      (on_path result now (statement_in storage walk (LoopStatement (CountHead tree) list))
-      (put_statement made (statements.Iterate head range.range) true)
-      (iterate_made storage walk tree list given head made range e f) put)
+  pub loop_returned : (tree : TypedHead) (list : TypedList) (given : Walk) (head : LoopHead) (made : Walk)
+      (range : AddedList) (ends : Bool)
+      → head_in storage walk tree ≡ (given, head) → list_in storage given list ≡ (made, range)
+      → ends ≡ loop_ends made.nodes head
+      → Gives result now (put_statement made (statements.Loop head range.range) ends)
+      → Gives result now (statement_in storage walk (LoopStatement tree list))
+  loop_returned tree list given head made range ends e f is put =
+      on_path result now (statement_in storage walk (LoopStatement tree list))
+      (put_statement made (statements.Loop head range.range) ends)
+      (loop_made storage walk tree list given head made range ends e f is) put
 
   pub case_returned : (tree : TypedExpression) (trees : TypedStatements) (given : Walk)
       (choice : ExpressionNumber)

@@ -33,5 +33,5 @@ pub use module::{Content, ExternalName, PublicName, PublicPlace, TreeModule};
 pub use place::{Home, Location, Place};
 pub use procedure::{FrameVariable, Parameter, ProcedureKind, TreeProcedure};
 pub use reference::{Reference, Subscript, Target};
-pub use statement::{Iteration, Statement, StatementNumber};
+pub use statement::{Iteration, LoopHead, Statement, StatementNumber};
 pub use traits::{Keeps, Traits};

@@ -21,6 +21,13 @@ pub struct Iteration {
     pub step: Option<ExpressionNumber>,
 }
 
+/// The head of a loop: the condition of a DO WHILE, or the head of an iterative DO.
+#[derive(Clone, Copy)]
+pub enum LoopHead {
+    While(ExpressionNumber),
+    Count(Iteration),
+}
+
 /// A statement. Lists of statements are in the module's table of lists, targets in its table of targets, arguments in
 /// its table of arguments.
 #[derive(Clone, Copy)]
@@ -57,12 +64,9 @@ pub enum Statement {
     },
     /// A simple DO, with its list.
     Do(Range),
-    While {
-        condition: ExpressionNumber,
-        body: Range,
-    },
-    Iterate {
-        head: Iteration,
+    /// DO WHILE or an iterative DO, with its list.
+    Loop {
+        head: LoopHead,
         body: Range,
     },
     /// DO CASE, with its statements.

@@ -4,19 +4,17 @@ ghost use Rattle.std.specs.Prelude.{◌≡◌, map, option_map, IfOk, OnOk};
 ghost use Rattle.typed_trees.specs.TypedTrees.{CaseStatement, IfStatement, LoopStatement, MoveStatement};
 ghost use Rattle.typed_trees.specs.Views.{arguments_view, else_view, expression_view, head_view, iteration_view, list_view, statement_view, statements_view, target_view};
 ghost use Rattle.layout.specs.Views.{layout_view};
-ghost use Rattle.treecode.specs.internal.Lowered.{ends_by};
 ghost use Rattle.treecode.specs.internal.Nodes.{nodes_of};
-ghost use Rattle.treecode.specs.internal.Traits.{number_at};
 ghost use Rattle.treecode.specs.internal.Adding.{target_in};
 ghost use Rattle.treecode.specs.internal.Beside.{outside, walk_of};
-ghost use Rattle.treecode.specs.internal.Walking.{assigned_in, call_in, else_in, goal_with, goals_in, iteration_in, list_in, moved_in, optional_in, put_statement, returned_in, statement_in, statements_in, targets_in, value_in};
+ghost use Rattle.treecode.specs.internal.Walking.{assigned_in, call_in, else_in, goal_with, goals_in, head_in, iteration_in, list_in, loop_ends, moved_in, optional_in, put_statement, returned_in, statement_in, statements_in, targets_in, value_in};
 
 use crate::expression::ExpressionNumber;
 use crate::heights::{height_of_call, height_of_target};
 use crate::lists::Range;
 use crate::lowering::Lowering;
 use crate::reference::Target;
-use crate::statement::{Iteration, Statement, StatementNumber};
+use crate::statement::{Iteration, LoopHead, Statement, StatementNumber};
 use layout::Layout;
 use meaning::holds;
 use std::alloc::AllocError;
@@ -246,6 +244,32 @@ impl Lowering {
         })
     }
 
+    // Adds the expressions of the head of a loop.
+    fn head(&mut self, storage: &Layout, head: &TypedHead) -> Result<LoopHead, AllocError>
+        ensures kept { OnOk result (outside self.new ≡ outside self.old) }
+        ensures ok { IfOk result (λ added. head_in (layout_view storage.now) (walk_of self.old)
+            (head_view head.now)
+            ≡ (walk_of self.new, added)) }
+    {
+        match head {
+            TypedHead::While(condition) => Ok(LoopHead::While(self.value(storage, condition)?)),
+            TypedHead::Count(head) => Ok(LoopHead::Count(self.iteration(storage, head)?)),
+        }
+    }
+
+    // Whether a loop with this head can end: it can unless its condition is known to be true.
+    fn ends(&self, head: LoopHead) -> bool
+        ensures { result ≡ loop_ends (nodes_of self.now.tree) head }
+    {
+        match head {
+            LoopHead::While(condition) => match self.tree.number(condition) {
+                Some(number) => !holds(number),
+                None => true,
+            },
+            LoopHead::Count(_) => true,
+        }
+    }
+
     // Adds a statement, after its parts.
     #[cycle(statement)]
     fn statement(
@@ -331,17 +355,7 @@ impl Lowering {
         }
     }
 
-    // Whether a loop with this condition can end: it can unless the condition is known to be true.
-    fn ends(&self, condition: ExpressionNumber) -> bool
-        ensures { result ≡ ends_by (number_at (nodes_of self.now.tree) condition) }
-    {
-        match self.tree.number(condition) {
-            Some(number) => !holds(number),
-            None => true,
-        }
-    }
-
-    // Adds a loop. Its end can be reached unless its head is a condition that is known to be true.
+    // Adds a loop.
     #[cycle(statement)]
     fn repeat(&mut self, storage: &Layout, turns: &TypedLoop) -> Result<AddedStatement, AllocError>
         ensures kept { OnOk result (outside self.new ≡ outside self.old) }
@@ -349,27 +363,14 @@ impl Lowering {
             (LoopStatement (head_view turns.now.head) (list_view turns.now.body))
             ≡ (walk_of self.new, added)) }
     {
-        match &turns.head {
-            TypedHead::While(condition) => {
-                let condition = self.value(storage, condition)?;
-                let body = self.list(storage, &turns.body)?;
-                let reaches_its_end = self.ends(condition);
-                let statement = Statement::While {
-                    condition,
-                    body: body.range,
-                };
-                self.add(statement, reaches_its_end)
-            }
-            TypedHead::Count(head) => {
-                let head = self.iteration(storage, head)?;
-                let body = self.list(storage, &turns.body)?;
-                let statement = Statement::Iterate {
-                    head,
-                    body: body.range,
-                };
-                self.add(statement, true)
-            }
-        }
+        let head = self.head(storage, &turns.head)?;
+        let body = self.list(storage, &turns.body)?;
+        let reaches_its_end = self.ends(head);
+        let statement = Statement::Loop {
+            head,
+            body: body.range,
+        };
+        self.add(statement, reaches_its_end)
     }
 
     // Adds DO CASE.

@@ -98,17 +98,22 @@ pub record HeadingTree : Type 0 where
   pub linkage : Option Linkage
   pub reentrant : Option Place
 
--- the head of an iterative DO
+-- the head of an iterative DO: variable = first TO last [BY step]
 pub record IterationTree : Type 0 where
   pub variable : Identifier
   pub first : ExpressionTree
   pub last : ExpressionTree
   pub step : Option ExpressionTree
 
--- the head of a loop, between DO and the first statement: WHILE a condition, or that of an iterative DO
+-- the head of a loop, between DO and the semicolon: WHILE a condition, or that of an iterative DO
 pub data LoopHeadTree : Type 0 where
   WhileHead : ExpressionTree → LoopHeadTree
   CountHead : IterationTree → LoopHeadTree
+
+-- a head by what it holds, one expression alone or an iteration; what is asked of every head goes through this
+abbrev pub of_loop_head : {A : Type 0} → (ExpressionTree → A) → (IterationTree → A) → LoopHeadTree → A
+of_loop_head of_expression of_iteration (WhileHead condition) = of_expression condition
+of_loop_head of_expression of_iteration (CountHead iteration) = of_iteration iteration
 
 mutual
   -- a statement with the labels before it

@@ -13,7 +13,7 @@ pub struct Iteration {
     pub step: Option<Expression>,
 }
 
-/// The head of a loop, between DO and the first statement.
+/// The head of a loop, between DO and the semicolon.
 pub enum LoopHead {
     /// WHILE a condition.
     While(Expression),
@@ -304,7 +304,7 @@ impl Declaration {
     }
 }
 
-/// The head of a procedure. No parentheses are an empty list of parameters.
+/// The heading of a procedure. No parentheses are an empty list of parameters.
 pub struct Heading {
     pub name: Identifier,
     pub parameters: Vec<Identifier>,

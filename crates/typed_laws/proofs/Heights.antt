@@ -1,7 +1,8 @@
 -- A typed expression is at most 17 times as high as the levels that it takes in the text, and so is what is
 -- highest in a statement.
-use Rattle.typed_laws.proofs.Prelude.{◌≡◌, ℕ, ◌+◌, ◌*◌, ◌≤◌, List, [], ◌∷◌, length, map, Option, None, Some, IsSomeAnd, slice_get, refl, ap, arith, IfSome, option_map, ScalarType, Identifier, arguments_height, else_height, expression_height, head_height, kind_height, optional_height, reference_height, statements_height, targets_height, FromDigits, FromString, FromMeasure, count_of_arguments, height_of, height_of_arguments, height_of_else, height_of_head, height_of_list, height_of_optional, height_of_reference, height_of_statement, height_of_statements, height_of_subscript, height_of_target, height_of_targets, type_of, IsInElement, IsPartOf, IsScalarOf, TypedExpression, NumberNode, ValueNode, LocationNode, ListNode, ConversionNode, CallNode, FunctionNode, ShiftNode, InputNode, TypedReference, PartOf, Subscript, NoSubscript, At, TypedTarget, StoredIn, SentTo, TypedArguments, TypedHead, TypedStatement, LabelStatement, MoveStatement, TypedElse, TypedStatements, TypedList, ListOf, ObjectType, ScalarObject, StructureObject, TypedObject, TypedProcedure, TypedModule, HasLocation, IsReturned, IsSeen, RefersToLocation, RefersToScalar, Takes, TypesHold, TypesHoldIn, TypesHoldInArguments, TypesHoldInElse, TypesHoldInHead, TypesHoldInList, TypesHoldInReference, TypesHoldInStatements, TypesHoldInSubscript, TypesHoldInTarget, TypesHoldInTargets, Within, WithinProcedure, WithinMain, types_of, nameless, untyped_arguments, untyped_else, untyped_expression, untyped_head, untyped_kind, untyped_list, untyped_reference, untyped_statements, untyped_subscript, untyped_target, HasFewParameters, types_count}
-use Rattle.typed_trees.specs.TypedTrees.{AssignmentNode, UnaryNode, BinaryNode, NoArguments, MoreArguments, WhileHead, CountHead, NullStatement, AssignmentStatement, CallStatement, ReturnStatement, HaltStatement, GotoStatement, IfStatement, DoStatement, LoopStatement, CaseStatement, NoElse, ElseStatement, NoStatements, MoreStatements}
+use Rattle.typed_laws.proofs.Prelude.{◌≡◌, ℕ, ◌+◌, ◌*◌, ◌≤◌, List, [], ◌∷◌, length, map, Option, None, Some, IsSomeAnd, slice_get, refl, ap, arith, IfSome, option_map, ScalarType, Identifier, arguments_height, else_height, expression_height, iteration_height, kind_height, optional_height, reference_height, statements_height, targets_height, FromDigits, FromString, FromMeasure, count_of_arguments, height_of, height_of_arguments, height_of_else, height_of_iteration, height_of_list, height_of_optional, height_of_reference, height_of_statement, height_of_statements, height_of_subscript, height_of_target, height_of_targets, type_of, IsInElement, IsPartOf, IsScalarOf, TypedExpression, NumberNode, ValueNode, LocationNode, ListNode, ConversionNode, CallNode, FunctionNode, ShiftNode, InputNode, TypedReference, PartOf, Subscript, NoSubscript, At, TypedTarget, StoredIn, SentTo, TypedArguments, TypedIteration, TypedStatement, LabelStatement, MoveStatement, TypedElse, TypedStatements, TypedList, ListOf, ObjectType, ScalarObject, StructureObject, TypedObject, TypedProcedure, TypedModule, HasLocation, IsReturned, IsSeen, RefersToLocation, RefersToScalar, Takes, TypesHold, TypesHoldIn, TypesHoldInArguments, TypesHoldInElse, TypesHoldInIteration, TypesHoldInList, TypesHoldInReference, TypesHoldInStatements, TypesHoldInSubscript, TypesHoldInTarget, TypesHoldInTargets, Within, WithinProcedure, WithinMain, types_of, nameless, untyped_arguments, untyped_else, untyped_expression, untyped_iteration, untyped_kind, untyped_list, untyped_reference, untyped_statements, untyped_subscript, untyped_target, HasFewParameters, types_count}
+use Rattle.typed_laws.proofs.Heads.{head_within}
+use Rattle.typed_trees.specs.TypedTrees.{AssignmentNode, UnaryNode, BinaryNode, NoArguments, MoreArguments, NullStatement, AssignmentStatement, CallStatement, ReturnStatement, HaltStatement, GotoStatement, IfStatement, DoStatement, LoopStatement, CaseStatement, NoElse, ElseStatement, NoStatements, MoreStatements}
 
 -- where no member is named there is no subscript of one
 abbrev HasNoMore : (member : Option ℕ) → Subscript → Type 0
@@ -152,15 +153,13 @@ module _ (typed : TypedModule) (within : Within) (few : HasFewParameters typed) 
   optional_within None holds = omega arith
   optional_within (Some value) holds = expression_within value holds
 
-  head_within :
-      (head : TypedHead) → TypesHoldInHead typed within head
-      → height_of_head head ≤ 1 + 17 * head_height (untyped_head typed head)
-  head_within (WhileHead condition) holds =
-      let part = expression_within condition holds in omega (arith, part)
-  head_within (CountHead iteration) holds =
-      let first = expression_within iteration.first holds.1 in
-      let last = expression_within iteration.last holds.2 in
-      let step = optional_within iteration.step holds.3 in
+  iteration_within :
+      (head : TypedIteration) → TypesHoldInIteration typed within head
+      → height_of_iteration head ≤ 1 + 17 * iteration_height (untyped_iteration typed head)
+  iteration_within head holds =
+      let first = expression_within head.first holds.1 in
+      let last = expression_within head.last holds.2 in
+      let step = optional_within head.step holds.3 in
       omega (arith, first, last, step)
 
   -- what a RETURN gives has types that hold
@@ -208,7 +207,7 @@ module _ (typed : TypedModule) (within : Within) (few : HasFewParameters typed) 
         omega (arith, one, two, three)
     statement_within (DoStatement body) holds = let part = list_within body holds in omega (arith, part)
     statement_within (LoopStatement head body) holds =
-        let one = head_within head holds.0 in
+        let one = head_within typed within expression_within iteration_within head holds.0 in
         let other = list_within body holds.1 in
         omega (arith, one, other)
     statement_within (CaseStatement choice body) holds =

@@ -5,6 +5,7 @@ pub mod Facts
 pub mod SameGlobals
 pub mod GlobalNames
 pub mod Formed
+mod Heads
 pub mod Heights
 pub mod Plain
 pub mod Charges

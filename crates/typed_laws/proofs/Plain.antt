@@ -1,6 +1,6 @@
 -- The bodies of a text, without what typed trees do not keep, nest no deeper than the text.
-use Rattle.typed_laws.proofs.Prelude.{ℕ, ◌≤◌, List, [], ◌∷◌, ◌++◌, map, Option, None, Some, arith, option_map, AllByRecursion, ExpressionTree, ConstantLeaf, ReferenceLeaf, LocationLeaf, ListLeaf, ParenthesizedNode, AssignmentNode, UnaryNode, BinaryNode, ReferenceTree, ReferenceTo, MemberTree, NoMember, MemberOf, ArgumentTrees, NoArguments, MoreArguments, LoopHeadTree, StatementTree, LabelledStatement, StatementKindTree, NullStatement, AssignmentStatement, CallStatement, ReturnStatement, HaltStatement, GotoStatement, IfStatement, DoStatement, LoopStatement, CaseStatement, ElseTree, NoElse, ElseStatement, StatementTrees, NoStatements, MoreStatements, DeclarationTree, DeclareTree, ProcedureTree, DeclarationTrees, NoDeclarations, MoreDeclarations, ModuleTree, arguments_height, declaration_height, declarations_height, else_height, expression_height, head_height, kind_height, member_height, module_height, optional_height, reference_height, statement_height, statements_height, targets_height, bodies_in, bodies_in_declaration, bodies_in_else, bodies_in_kind, bodies_in_statement, bodies_in_statements, plain_arguments, plain_bodies, plain_else, plain_expression, plain_head, plain_kind, plain_member, plain_reference, plain_statement, plain_statements}
-use Rattle.trees.specs.Trees.{WhileHead, CountHead}
+use Rattle.typed_laws.proofs.Prelude.{ℕ, ◌≤◌, List, [], ◌∷◌, ◌++◌, map, Option, None, Some, arith, option_map, AllByRecursion, ExpressionTree, ConstantLeaf, ReferenceLeaf, LocationLeaf, ListLeaf, ParenthesizedNode, AssignmentNode, UnaryNode, BinaryNode, ReferenceTree, ReferenceTo, MemberTree, NoMember, MemberOf, ArgumentTrees, NoArguments, MoreArguments, IterationTree, StatementTree, LabelledStatement, StatementKindTree, NullStatement, AssignmentStatement, CallStatement, ReturnStatement, HaltStatement, GotoStatement, IfStatement, DoStatement, LoopStatement, CaseStatement, ElseTree, NoElse, ElseStatement, StatementTrees, NoStatements, MoreStatements, DeclarationTree, DeclareTree, ProcedureTree, DeclarationTrees, NoDeclarations, MoreDeclarations, ModuleTree, arguments_height, declaration_height, declarations_height, else_height, expression_height, iteration_height, kind_height, member_height, module_height, optional_height, reference_height, statement_height, statements_height, targets_height, bodies_in, bodies_in_declaration, bodies_in_else, bodies_in_kind, bodies_in_statement, bodies_in_statements, plain_arguments, plain_bodies, plain_else, plain_expression, plain_iteration, plain_kind, plain_member, plain_reference, plain_statement, plain_statements}
+use Rattle.typed_laws.proofs.Heads.{head_lower}
 
 mutual
   expression_lower : (tree : ExpressionTree)
@@ -50,12 +50,11 @@ optional_lower :
 optional_lower None = omega arith
 optional_lower (Some tree) = expression_lower tree
 
-head_lower : (tree : LoopHeadTree) → head_height (plain_head tree) ≤ head_height tree
-head_lower (WhileHead condition) = expression_lower condition
-head_lower (CountHead counting) =
-    let first = expression_lower counting.first in
-    let last = expression_lower counting.last in
-    let step = optional_lower counting.step in
+iteration_lower : (tree : IterationTree) → iteration_height (plain_iteration tree) ≤ iteration_height tree
+iteration_lower tree =
+    let first = expression_lower tree.first in
+    let last = expression_lower tree.last in
+    let step = optional_lower tree.step in
     omega (arith, first, last, step)
 
 mutual
@@ -79,7 +78,7 @@ mutual
       omega (arith, one, two, three)
   kind_lower (DoStatement place declared body) = let part = statements_lower body in omega (arith, part)
   kind_lower (LoopStatement place head body) =
-      let one = head_lower head in
+      let one = head_lower expression_lower iteration_lower head in
       let other = statements_lower body in
       omega (arith, one, other)
   kind_lower (CaseStatement place choice body) =

@@ -1,7 +1,8 @@
 -- If what is asked of each node by one follows from what is asked by another, the one holds everywhere if the other does.
 use Rattle.typed_trees.proofs.Prelude.{List, [], ◌∷◌, Option, Some, None}
-use Rattle.typed_trees.specs.Everywhere.{Asked, Nothing, That, alone, beside, Questions, Everywhere, EverywhereInReference, EverywhereInSubscript, EverywhereInTarget, EverywhereInArguments, EverywhereInTargets, EverywhereIfSome, EverywhereInHead, EverywhereIn, EverywhereInElse, EverywhereInStatements, EverywhereInList}
-use Rattle.typed_trees.specs.TypedTrees.{TypedExpression, NumberNode, ValueNode, LocationNode, ListNode, ConversionNode, AssignmentNode, UnaryNode, BinaryNode, CallNode, FunctionNode, ShiftNode, InputNode, TypedReference, PartOf, Subscript, NoSubscript, At, TypedTarget, StoredIn, SentTo, TypedArguments, NoArguments, MoreArguments, TypedIteration, TypedHead, WhileHead, CountHead, TypedStatement, LabelStatement, NullStatement, AssignmentStatement, CallStatement, MoveStatement, ReturnStatement, HaltStatement, GotoStatement, IfStatement, DoStatement, LoopStatement, CaseStatement, TypedElse, NoElse, ElseStatement, TypedStatements, NoStatements, MoreStatements, TypedList, ListOf}
+use Rattle.typed_trees.proofs.Heads.{head_gives}
+use Rattle.typed_trees.specs.Everywhere.{Asked, Nothing, That, alone, beside, Questions, Everywhere, EverywhereInReference, EverywhereInSubscript, EverywhereInTarget, EverywhereInArguments, EverywhereInTargets, EverywhereIfSome, EverywhereInIteration, EverywhereInHead, EverywhereIn, EverywhereInElse, EverywhereInStatements, EverywhereInList}
+use Rattle.typed_trees.specs.TypedTrees.{TypedExpression, NumberNode, ValueNode, LocationNode, ListNode, ConversionNode, AssignmentNode, UnaryNode, BinaryNode, CallNode, FunctionNode, ShiftNode, InputNode, TypedReference, PartOf, Subscript, NoSubscript, At, TypedTarget, StoredIn, SentTo, TypedArguments, NoArguments, MoreArguments, TypedIteration, TypedHead, TypedStatement, LabelStatement, NullStatement, AssignmentStatement, CallStatement, MoveStatement, ReturnStatement, HaltStatement, GotoStatement, IfStatement, DoStatement, LoopStatement, CaseStatement, TypedElse, NoElse, ElseStatement, TypedStatements, NoStatements, MoreStatements, TypedList, ListOf}
 
 -- at each node, what one asks follows from what another asks
 pub record Gives (given wanted : Questions) : Type 0 where
@@ -105,11 +106,14 @@ module _ (given wanted : Questions) (gives : Gives given wanted) where
   gives_if_some None holds = tt
   gives_if_some (Some value) holds = gives_everywhere value holds
 
-  pub gives_head : (head : TypedHead) → EverywhereInHead given head → EverywhereInHead wanted head
-  gives_head (WhileHead condition) holds = gives_everywhere condition holds
-  gives_head (CountHead head) holds =
+  gives_iteration : (head : TypedIteration) → EverywhereInIteration given head
+      → EverywhereInIteration wanted head
+  gives_iteration head holds =
       with_parts (given.iteration head) (wanted.iteration head) (gives.iteration head)
       (λ parts. (gives_everywhere head.first parts.0, gives_everywhere head.last parts.1, gives_if_some head.step parts.2)) holds
+
+  pub gives_head : (head : TypedHead) → EverywhereInHead given head → EverywhereInHead wanted head
+  gives_head head holds = head_gives gives_everywhere gives_iteration head holds
 
   mutual
     pub gives_statement : (statement : TypedStatement) → EverywhereIn given statement

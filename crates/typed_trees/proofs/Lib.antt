@@ -7,5 +7,6 @@ pub mod MemberTable
 pub mod Heights
 pub mod WellTypedExamples
 pub mod Inside
+pub mod Heads
 pub mod Everywhere
 pub mod Numbers

@@ -7,9 +7,12 @@ use Rattle.typed_trees.specs.declared.expression.TypedTarget.TheVariants as targ
 use Rattle.typed_trees.specs.declared.module.Typed.{Typed}
 use Rattle.typed_trees.specs.declared.module.TypedProcedure.{TypedProcedure}
 use Rattle.typed_trees.specs.declared.statement.TypedHead.{TypedHead}
-use Rattle.typed_trees.specs.declared.statement.TypedHead.TheVariants as heads
+use Rattle.typed_trees.specs.declared.statement.TypedIteration.{TypedIteration}
 use Rattle.typed_trees.specs.declared.statement.TypedStatement.{Held-TypedIf-otherwise, None' as NoElse', Some' as SomeElse'}
 use Rattle.typed_trees.specs.declared.statement.TypedStatement.TheVariants as statements
+use Rattle.typed_trees.specs.Numbers.{NumbersFitInIteration}
+use Rattle.typed_trees.specs.Views.{iteration_view}
+use Rattle.typed_trees.proofs.Heads.{head_views}
 
 mutual
   numbers_in : (expression : TypedExpression) → NumbersFit (expression_view expression)
@@ -53,9 +56,11 @@ in_step : (step : Option TypedExpression) → NumbersFitIfSome (option_map expre
 in_step None = tt
 in_step (Some step) = numbers_in step
 
+in_iteration : (head : TypedIteration) → NumbersFitInIteration (iteration_view head)
+in_iteration head = (numbers_in head.first, numbers_in head.last, in_step head.step)
+
 in_head : (head : TypedHead) → NumbersFitInHead (head_view head)
-in_head (heads.While condition) = numbers_in condition
-in_head (heads.Count head) = (numbers_in head.first, numbers_in head.last, in_step head.step)
+in_head head = head_views NumbersFit NumbersFitInIteration numbers_in in_iteration head
 
 mutual
   in_statement : (statement : TypedStatement) → NumbersFitIn (statement_view statement)

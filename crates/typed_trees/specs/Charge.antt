@@ -2,7 +2,7 @@
 -- and variables in a frame, and two bytes for each level of its highest expression. This is the profile's own
 -- measure.
 use Rattle.std.specs.Prelude.{ℕ, ◌+◌, ◌*◌, max, List, [], ◌∷◌, length, Option, Some, None}
-use Rattle.typed_trees.specs.TypedTrees.{TypedExpression, NumberNode, ValueNode, LocationNode, ListNode, ConversionNode, AssignmentNode, UnaryNode, BinaryNode, CallNode, FunctionNode, ShiftNode, InputNode, TypedReference, PartOf, Subscript, NoSubscript, At, TypedTarget, StoredIn, SentTo, TypedArguments, NoArguments, MoreArguments, TypedIteration, TypedHead, WhileHead, CountHead, TypedStatement, LabelStatement, NullStatement, AssignmentStatement, CallStatement, MoveStatement, ReturnStatement, HaltStatement, GotoStatement, IfStatement, DoStatement, LoopStatement, CaseStatement, TypedElse, NoElse, ElseStatement, TypedStatements, NoStatements, MoreStatements, TypedList, ListOf, TypedProcedure}
+use Rattle.typed_trees.specs.TypedTrees.{TypedExpression, NumberNode, ValueNode, LocationNode, ListNode, ConversionNode, AssignmentNode, UnaryNode, BinaryNode, CallNode, FunctionNode, ShiftNode, InputNode, TypedReference, PartOf, Subscript, NoSubscript, At, TypedTarget, StoredIn, SentTo, TypedArguments, NoArguments, MoreArguments, TypedIteration, TypedHead, of_head, TypedStatement, LabelStatement, NullStatement, AssignmentStatement, CallStatement, MoveStatement, ReturnStatement, HaltStatement, GotoStatement, IfStatement, DoStatement, LoopStatement, CaseStatement, TypedElse, NoElse, ElseStatement, TypedStatements, NoStatements, MoreStatements, TypedList, ListOf, TypedProcedure}
 
 abbrev mutual
   -- The height of an expression: 1 if it has no parts, else one more than the highest part; of a call also
@@ -56,9 +56,9 @@ abbrev pub height_of_iteration : TypedIteration → ℕ
 height_of_iteration head =
     max 1 (max (height_of head.first) (max (height_of head.last) (height_of_optional head.step)))
 
+-- the head of a loop
 abbrev pub height_of_head : TypedHead → ℕ
-height_of_head (WhileHead condition) = height_of condition
-height_of_head (CountHead iteration) = height_of_iteration iteration
+height_of_head = of_head height_of height_of_iteration
 
 abbrev mutual
   -- the height of a statement: that of its highest expression, call or target, 0 if it has none

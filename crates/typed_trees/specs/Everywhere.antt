@@ -1,7 +1,7 @@
 -- One condition at each node of typed trees: what is asked of a node beside its parts. A predicate that says something of each
 -- node and of all of its parts is an instance of `Everywhere` and `EverywhereIn`, and so has their laws.
 use Rattle.std.specs.Prelude.{List, [], ◌∷◌, Option, Some, None}
-use Rattle.typed_trees.specs.TypedTrees.{TypedExpression, NumberNode, ValueNode, LocationNode, ListNode, ConversionNode, AssignmentNode, UnaryNode, BinaryNode, CallNode, FunctionNode, ShiftNode, InputNode, TypedReference, PartOf, Subscript, NoSubscript, At, TypedTarget, StoredIn, SentTo, TypedArguments, NoArguments, MoreArguments, TypedIteration, TypedHead, WhileHead, CountHead, TypedStatement, LabelStatement, NullStatement, AssignmentStatement, CallStatement, MoveStatement, ReturnStatement, HaltStatement, GotoStatement, IfStatement, DoStatement, LoopStatement, CaseStatement, TypedElse, NoElse, ElseStatement, TypedStatements, NoStatements, MoreStatements, TypedList, ListOf}
+use Rattle.typed_trees.specs.TypedTrees.{TypedExpression, NumberNode, ValueNode, LocationNode, ListNode, ConversionNode, AssignmentNode, UnaryNode, BinaryNode, CallNode, FunctionNode, ShiftNode, InputNode, TypedReference, PartOf, Subscript, NoSubscript, At, TypedTarget, StoredIn, SentTo, TypedArguments, NoArguments, MoreArguments, TypedIteration, TypedHead, of_head, TypedStatement, LabelStatement, NullStatement, AssignmentStatement, CallStatement, MoveStatement, ReturnStatement, HaltStatement, GotoStatement, IfStatement, DoStatement, LoopStatement, CaseStatement, TypedElse, NoElse, ElseStatement, TypedStatements, NoStatements, MoreStatements, TypedList, ListOf}
 
 -- what is asked of a node: nothing, or a condition
 pub data Asked : Type 1 where
@@ -88,12 +88,15 @@ abbrev pub EverywhereIfSome : Questions → Option TypedExpression → Type 0
 EverywhereIfSome asks None = Unit {0}
 EverywhereIfSome asks (Some expression) = Everywhere asks expression
 
--- in the head of a loop
-abbrev pub EverywhereInHead : Questions → TypedHead → Type 0
-EverywhereInHead asks (WhileHead condition) = Everywhere asks condition
-EverywhereInHead asks (CountHead head) =
+-- in the head of an iterative DO
+abbrev pub EverywhereInIteration : Questions → TypedIteration → Type 0
+EverywhereInIteration asks head =
     beside (asks.iteration head)
     (Everywhere asks head.first × Everywhere asks head.last × EverywhereIfSome asks head.step)
+
+-- in the head of a loop
+abbrev pub EverywhereInHead : Questions → TypedHead → Type 0
+EverywhereInHead asks = of_head (Everywhere asks) (EverywhereInIteration asks)
 
 abbrev mutual
   -- at each node of a statement

@@ -1,8 +1,8 @@
 -- The values of the numbers in typed trees, as `NumberNode` has them, have the width of a word: none is above 65535.
 -- With `IsNumberOf` of the trees that are well typed, by which that of a BYTE is below 256, each is a value of its type.
 use Rattle.std.specs.Prelude.{◌<◌, List, All, Option}
-use Rattle.typed_trees.specs.TypedTrees.{TypedExpression, NumberNode, TypedReference, Subscript, TypedTarget, TypedArguments, TypedHead, TypedStatement, TypedElse, TypedStatements, TypedList, TypedProcedure, TypedModule}
-use Rattle.typed_trees.specs.Everywhere.{Asked, Nothing, That, Questions, Everywhere, EverywhereInReference, EverywhereInSubscript, EverywhereInTarget, EverywhereInArguments, EverywhereInTargets, EverywhereIfSome, EverywhereInHead, EverywhereIn, EverywhereInElse, EverywhereInStatements, EverywhereInList}
+use Rattle.typed_trees.specs.TypedTrees.{TypedExpression, NumberNode, TypedReference, Subscript, TypedTarget, TypedArguments, TypedIteration, TypedHead, TypedStatement, TypedElse, TypedStatements, TypedList, TypedProcedure, TypedModule}
+use Rattle.typed_trees.specs.Everywhere.{Asked, Nothing, That, Questions, Everywhere, EverywhereInReference, EverywhereInSubscript, EverywhereInTarget, EverywhereInArguments, EverywhereInTargets, EverywhereIfSome, EverywhereInIteration, EverywhereInHead, EverywhereIn, EverywhereInElse, EverywhereInStatements, EverywhereInList}
 
 abbrev pub fits : TypedExpression → Asked
 fits (NumberNode scalar value origin) = That (value < 65536)
@@ -40,6 +40,9 @@ NumbersFitInTargets = EverywhereInTargets numbers
 -- an expression, if there is one
 abbrev pub NumbersFitIfSome : Option TypedExpression → Type 0
 NumbersFitIfSome = EverywhereIfSome numbers
+
+abbrev pub NumbersFitInIteration : TypedIteration → Type 0
+NumbersFitInIteration = EverywhereInIteration numbers
 
 abbrev pub NumbersFitInHead : TypedHead → Type 0
 NumbersFitInHead = EverywhereInHead numbers

@@ -80,6 +80,11 @@ pub data TypedHead : Type 0 where
   WhileHead : TypedExpression → TypedHead
   CountHead : TypedIteration → TypedHead
 
+-- a head by what it holds, one expression alone or an iteration; what is asked of every head goes through this
+abbrev pub of_head {ℓ} : {A : Type ℓ} → (TypedExpression → A) → (TypedIteration → A) → TypedHead → A
+of_head of_expression of_iteration (WhileHead condition) = of_expression condition
+of_head of_expression of_iteration (CountHead iteration) = of_iteration iteration
+
 mutual
   pub data TypedStatement : Type 0 where
     -- a label, which stands before the statement that it names

@@ -7,7 +7,7 @@ use Rattle.trees.specs.declared.declaration.ScalarType.TheVariants.{Byte, Addres
 use Rattle.typed_trees.specs.declared.limits.TheConstants.{CODE_BYTES, CODE_BYTES_FOR_WEIGHT}
 use Rattle.typed_trees.specs.declared.parts.ConstantItem.TheVariants.{ConstantObject, ConstantList}
 use Rattle.typed_trees.specs.declared.parts.ConstantItem.{ConstantItem}
-use Rattle.typed_trees.specs.TypedTrees.{TypedExpression, NumberNode, ValueNode, LocationNode, ListNode, ConversionNode, AssignmentNode, UnaryNode, BinaryNode, CallNode, FunctionNode, ShiftNode, InputNode, TypedReference, PartOf, Subscript, NoSubscript, At, TypedTarget, StoredIn, SentTo, TypedArguments, NoArguments, MoreArguments, TypedIteration, TypedHead, WhileHead, CountHead, TypedStatement, LabelStatement, NullStatement, AssignmentStatement, CallStatement, MoveStatement, ReturnStatement, HaltStatement, GotoStatement, IfStatement, DoStatement, LoopStatement, CaseStatement, TypedElse, NoElse, ElseStatement, TypedStatements, NoStatements, MoreStatements, TypedList, ListOf, TypedProcedure, TypedModule}
+use Rattle.typed_trees.specs.TypedTrees.{TypedExpression, NumberNode, ValueNode, LocationNode, ListNode, ConversionNode, AssignmentNode, UnaryNode, BinaryNode, CallNode, FunctionNode, ShiftNode, InputNode, TypedReference, PartOf, Subscript, NoSubscript, At, TypedTarget, StoredIn, SentTo, TypedArguments, NoArguments, MoreArguments, TypedIteration, TypedHead, of_head, TypedStatement, LabelStatement, NullStatement, AssignmentStatement, CallStatement, MoveStatement, ReturnStatement, HaltStatement, GotoStatement, IfStatement, DoStatement, LoopStatement, CaseStatement, TypedElse, NoElse, ElseStatement, TypedStatements, NoStatements, MoreStatements, TypedList, ListOf, TypedProcedure, TypedModule}
 use Rattle.typed_trees.specs.Sizes.{size_of_object}
 use Rattle.typed_trees.specs.ExpressionTypes.{type_of}
 
@@ -65,9 +65,9 @@ weight_of_iteration head =
     1 + weight_of_storing (type_of head.first) head.scalar + weight_of_expression head.first
     + weight_of_expression head.last + weight_of_optional head.step
 
+-- the head of a loop
 abbrev pub weight_of_head : TypedHead → ℕ
-weight_of_head (WhileHead condition) = weight_of_expression condition
-weight_of_head (CountHead iteration) = weight_of_iteration iteration
+weight_of_head = of_head weight_of_expression weight_of_iteration
 
 abbrev mutual
   -- each statement weighs 1, but for labels

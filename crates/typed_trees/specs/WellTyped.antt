@@ -8,7 +8,7 @@ use Rattle.trees.specs.declared.expression.BinaryOperator.{BinaryOperator}
 use Rattle.trees.specs.declared.expression.BinaryOperator.TheVariants.{Multiply, Divide, Modulo}
 use Rattle.typed_trees.specs.declared.parts.ShiftFunction.{ShiftFunction}
 use Rattle.typed_trees.specs.declared.parts.ShiftFunction.TheVariants.{RotateLeft, RotateRight}
-use Rattle.typed_trees.specs.TypedTrees.{TypedExpression, NumberNode, ValueNode, LocationNode, ListNode, ConversionNode, AssignmentNode, UnaryNode, BinaryNode, CallNode, FunctionNode, ShiftNode, InputNode, TypedReference, PartOf, Subscript, NoSubscript, At, TypedTarget, StoredIn, SentTo, TypedArguments, NoArguments, MoreArguments, TypedIteration, TypedHead, WhileHead, CountHead, TypedStatement, LabelStatement, NullStatement, AssignmentStatement, CallStatement, MoveStatement, ReturnStatement, HaltStatement, GotoStatement, IfStatement, DoStatement, LoopStatement, CaseStatement, TypedElse, NoElse, ElseStatement, TypedStatements, NoStatements, MoreStatements, TypedList, ListOf, Home, BasedOn, Nowhere, InFrame, TypedObject, TypedProcedure, TypedModule}
+use Rattle.typed_trees.specs.TypedTrees.{TypedExpression, NumberNode, ValueNode, LocationNode, ListNode, ConversionNode, AssignmentNode, UnaryNode, BinaryNode, CallNode, FunctionNode, ShiftNode, InputNode, TypedReference, PartOf, Subscript, NoSubscript, At, TypedTarget, StoredIn, SentTo, TypedArguments, NoArguments, MoreArguments, TypedIteration, TypedHead, of_head, TypedStatement, LabelStatement, NullStatement, AssignmentStatement, CallStatement, MoveStatement, ReturnStatement, HaltStatement, GotoStatement, IfStatement, DoStatement, LoopStatement, CaseStatement, TypedElse, NoElse, ElseStatement, TypedStatements, NoStatements, MoreStatements, TypedList, ListOf, Home, BasedOn, Nowhere, InFrame, TypedObject, TypedProcedure, TypedModule}
 use Rattle.typed_trees.specs.ObjectParts.{IsPartOf, IsScalarOf, IsScalar}
 use Rattle.typed_trees.specs.ExpressionTypes.{type_of}
 
@@ -142,17 +142,20 @@ IsReturned typed (WithinProcedure number (Some scalar)) (Some value) =
     HasType typed (WithinProcedure number (Some scalar)) scalar value
 IsReturned typed within value = ⊥
 
--- the variable of an iterative DO is a scalar of the type of the head, and not BASED
+-- the variable of an iterative DO is a scalar of the type that its iteration has, and not BASED
 abbrev pub Counts : TypedModule → Within → TypedIteration → Type 0
 Counts typed within head =
     IsSomeAnd (slice_get typed.objects head.variable)
     (λ (object : TypedObject). IsScalar head.scalar object × LiesFor within object.home)
 
-abbrev pub TypesHoldInHead : TypedModule → Within → TypedHead → Type 0
-TypesHoldInHead typed within (WhileHead condition) = TypesHold typed within condition
-TypesHoldInHead typed within (CountHead head) =
+abbrev pub TypesHoldInIteration : TypedModule → Within → TypedIteration → Type 0
+TypesHoldInIteration typed within head =
     Counts typed within head × TypesHold typed within head.first × TypesHold typed within head.last
     × IfSome head.step (TypesHold typed within)
+
+-- the head of a loop whose values have types
+abbrev pub TypesHoldInHead : TypedModule → Within → TypedHead → Type 0
+TypesHoldInHead typed within = of_head (TypesHold typed within) (TypesHoldInIteration typed within)
 
 abbrev mutual
   -- a statement whose parts have the types that their places require

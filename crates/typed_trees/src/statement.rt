@@ -12,7 +12,7 @@ pub struct TypedIteration {
     pub step: Option<TypedExpression>,
 }
 
-/// The head of a loop, between DO and the first statement.
+/// The head of a loop.
 pub enum TypedHead {
     /// WHILE a condition.
     While(TypedExpression),

@@ -6,8 +6,11 @@ use Rattle.asm8080.specs.declared.item.WordForm.TheVariants.{Jump}
 use Rattle.trees.specs.declared.declaration.ScalarType.{ScalarType}
 use Rattle.trees.specs.declared.declaration.ScalarType.TheVariants as scalars
 use Rattle.treecode.specs.declared.expression.ExpressionNumber.{ExpressionNumber}
+use Rattle.treecode.specs.declared.lists.Range.{Range}
+use Rattle.treecode.specs.declared.statement.LoopHead.{LoopHead}
 use Rattle.treecode.specs.declared.statement.Statement.{Statement}
-use Rattle.treecode.specs.declared.statement.Statement.TheVariants.{Label, Null, Assignment, Call, Move, Return, Halt, Goto, If, Do, While, Iterate, Case}
+use Rattle.treecode.specs.declared.statement.Statement.TheVariants.{Label, Null, Assignment, Call, Move, Return, Halt, Goto, If, Do, Loop, Case}
+use Rattle.treecode.specs.internal.Lowered.{for_head}
 use Rattle.steps8080.specs.declared.step.LabelNumber.{LabelNumber}
 use Rattle.steps8080.specs.declared.step.Task.TheVariants as tasks
 use Rattle.steps8080.specs.declared.sites.site.Site.{Site}
@@ -42,6 +45,18 @@ unfoldable pub return_of_steps : Body → Option ExpressionNumber → List Plann
 return_of_steps body value =
     returned_value_steps value body.procedure.now.result ++ (return_steps body ++ (Reaches false ∷ []))
 
+-- The steps of a loop. DO WHILE: a test by which the code goes around the statements, and a jump back.
+-- Iterative DO: a counter, a test of it, the statements, a step, and a jump back.
+abbrev pub head_steps : Body → Site → LoopHead → Range → (first : ℕ) → List Planned
+head_steps body site head list first =
+    for_head (λ condition. while_steps site condition list first)
+    (λ iteration. iteration_steps body site iteration list first) head
+
+-- the number of labels that they take
+abbrev pub head_labels : Site → LoopHead → ℕ
+head_labels site head =
+    for_head (λ condition. while_labels site condition) (λ iteration. iteration_labels site iteration) head
+
 -- the steps of a statement, with consecutive labels from `first` on
 unfoldable pub statement_steps : Body → Site → Statement → (first : ℕ) → List Planned
 -- the place of a label of the source
@@ -65,17 +80,14 @@ statement_steps body site (If condition then_part else_part) first =
     if_steps body site condition then_part else_part first
 -- the statements one after another
 statement_steps body site (Do list) first = ListOf list ∷ []
--- a test by which the code goes around the statements, and a jump back
-statement_steps body site (While condition list) first = while_steps site condition list first
--- a counter, a test of it, the statements, a step, and a jump back
-statement_steps body site (Iterate head list) first = iteration_steps body site head list first
+-- a test, the statements, and a jump back
+statement_steps body site (Loop head list) first = head_steps body site head list first
 -- a jump through a table of jumps to the chosen statement
 statement_steps body site (Case choice list) first = case_steps body site choice list first
 
 -- the number of labels that they take
 unfoldable pub statement_labels : Body → Site → Statement → ℕ
 statement_labels body site (If condition then_part else_part) = if_labels body site condition then_part else_part
-statement_labels body site (While condition list) = while_labels site condition
-statement_labels body site (Iterate head list) = iteration_labels site head
+statement_labels body site (Loop head list) = head_labels site head
 statement_labels body site (Case choice list) = case_labels site choice list
 statement_labels body site other = 0

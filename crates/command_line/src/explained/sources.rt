@@ -1,7 +1,7 @@
 //! What is printed of the numbers of faults of a source, and of its code. `tools/faults --write` makes it of docs/faults.md.
 
 /// The pages, with form feeds between them. Each begins with its number, on a line of its own.
-pub const SOURCES: [u8; 18458] = *b"\
+pub const SOURCES: [u8; 18421] = *b"\
 C1
 
 A character that is not allowed there, or a string that is not closed on its
@@ -148,8 +148,7 @@ a statement without its        the next      the semicolon
 `IF A THEN B = 1 ELSE B = 2;`  `ELSE`        `IF A THEN B = 1; ELSE B = 2;`
 `A := 1;`                      `:=`          `A = 1;` (`:=` only in parentheses
                                                in an expression)
-`A = 0, B = 0;`                the second    `A, B = 0;`
-                                 `=`
+`A = 0, B = 0;`                the comma     `A, B = 0;`
 `V(I := I + 1)`,               `:=`          `V((I := I + 1))`: its own
   `CALL P(A := 1)`                             parentheses
 `CALL P();`                    `)`           `CALL P;`

@@ -3,7 +3,7 @@
 -- for.
 use Rattle.std.specs.Prelude.{ℕ, List, [], ◌∷◌, IfSome, All, Some, None}
 use Rattle.std.specs.List.{enumerate_from}
-use Rattle.typed_trees.specs.TypedTrees.{TypedExpression, NumberNode, ValueNode, LocationNode, ListNode, ConversionNode, AssignmentNode, UnaryNode, BinaryNode, CallNode, FunctionNode, ShiftNode, InputNode, TypedReference, PartOf, Subscript, NoSubscript, At, TypedTarget, StoredIn, SentTo, TypedArguments, NoArguments, MoreArguments, TypedHead, WhileHead, CountHead, TypedStatement, LabelStatement, NullStatement, AssignmentStatement, CallStatement, MoveStatement, ReturnStatement, HaltStatement, GotoStatement, IfStatement, DoStatement, LoopStatement, CaseStatement, TypedElse, NoElse, ElseStatement, TypedStatements, NoStatements, MoreStatements, TypedList, ListOf, TypedProcedure, TypedModule}
+use Rattle.typed_trees.specs.TypedTrees.{TypedExpression, NumberNode, ValueNode, LocationNode, ListNode, ConversionNode, AssignmentNode, UnaryNode, BinaryNode, CallNode, FunctionNode, ShiftNode, InputNode, TypedReference, PartOf, Subscript, NoSubscript, At, TypedTarget, StoredIn, SentTo, TypedArguments, NoArguments, MoreArguments, TypedIteration, TypedHead, of_head, TypedStatement, LabelStatement, NullStatement, AssignmentStatement, CallStatement, MoveStatement, ReturnStatement, HaltStatement, GotoStatement, IfStatement, DoStatement, LoopStatement, CaseStatement, TypedElse, NoElse, ElseStatement, TypedStatements, NoStatements, MoreStatements, TypedList, ListOf, TypedProcedure, TypedModule}
 use Rattle.typed_trees.specs.WellTyped.{Within, WithinProcedure, WithinMain}
 use Rattle.meaning.specs.Access.{Surroundings}
 use Rattle.meaning_laws.specs.internal.Meant.{CallIsMeant, ListIsPlaced, ReferenceIsMeant, VariableIsMeant}
@@ -55,12 +55,15 @@ AreNamedInTargets around typed within [] = Unit {0}
 AreNamedInTargets around typed within (first ∷ others) =
     AreNamedInTarget around typed within first × AreNamedInTargets around typed within others
 
-abbrev pub AreNamedInHead : Surroundings → TypedModule → Within → TypedHead → Type 0
-AreNamedInHead around typed within (WhileHead condition) = AreNamed around typed within condition
-AreNamedInHead around typed within (CountHead head) =
+abbrev pub AreNamedInIteration : Surroundings → TypedModule → Within → TypedIteration → Type 0
+AreNamedInIteration around typed within head =
     VariableIsMeant around.program around.number_of_module typed within head.variable
     × AreNamed around typed within head.first × AreNamed around typed within head.last
     × IfSome head.step (AreNamed around typed within)
+
+abbrev pub AreNamedInHead : Surroundings → TypedModule → Within → TypedHead → Type 0
+AreNamedInHead around typed within =
+    of_head (AreNamed around typed within) (AreNamedInIteration around typed within)
 
 abbrev mutual
   -- in a statement

@@ -11,9 +11,11 @@ use Rattle.treecode.specs.declared.module.TreeModule.{TreeModule}
 use Rattle.treecode.specs.declared.procedure.TreeProcedure.{TreeProcedure}
 use Rattle.treecode.specs.declared.reference.Target.{Target}
 use Rattle.treecode.specs.declared.statement.Iteration.{Iteration}
+use Rattle.treecode.specs.declared.statement.LoopHead.{LoopHead}
 use Rattle.treecode.specs.declared.statement.Statement.{Statement}
 use Rattle.treecode.specs.declared.statement.Statement.TheVariants as statements
 use Rattle.treecode.specs.declared.statement.StatementNumber.{StatementNumber}
+use Rattle.treecode.specs.internal.Lowered.{for_head}
 use Rattle.treecode.specs.internal.Nodes.{Nodes, nodes_of}
 use Rattle.treecode.specs.internal.Traits.{traits_at}
 use Rattle.measure_laws.specs.internal.Weights.{beside_at, weight_in_target, weight_of_given}
@@ -41,6 +43,10 @@ weight_of_iteration nodes head =
     + weight_of_expression nodes head.first + weight_of_expression nodes head.last
     + option_map_or (weight_of_expression nodes) head.step 0
 
+-- the head of a loop
+abbrev pub weight_of_head : Nodes → LoopHead → ℕ
+weight_of_head nodes head = for_head (weight_of_expression nodes) (weight_of_iteration nodes) head
+
 -- the statements of a list, from the weights of statements by number
 abbrev pub weight_of_range : (weight : ℕ → ℕ) → Nodes → Range → ℕ
 weight_of_range weight nodes range =
@@ -65,10 +71,8 @@ weight_of_statement weight nodes (statements.If condition body otherwise) =
     1 + weight_of_expression nodes condition + weight body.index
     + option_map_or (λ (number : StatementNumber). weight number.index) otherwise 0
 weight_of_statement weight nodes (statements.Do body) = 1 + weight_of_range weight nodes body
-weight_of_statement weight nodes (statements.While condition body) =
-    1 + weight_of_expression nodes condition + weight_of_range weight nodes body
-weight_of_statement weight nodes (statements.Iterate head body) =
-    1 + weight_of_iteration nodes head + weight_of_range weight nodes body
+weight_of_statement weight nodes (statements.Loop head body) =
+    1 + weight_of_head nodes head + weight_of_range weight nodes body
 weight_of_statement weight nodes (statements.Case choice body) =
     1 + weight_of_expression nodes choice + weight_of_range weight nodes body
 

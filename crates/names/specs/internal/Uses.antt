@@ -3,7 +3,7 @@
 use Rattle.std.specs.Prelude.{List, [], ◌∷◌, ◌++◌, Option, Some, None}
 use Rattle.std.specs.List.{flat_map}
 use Rattle.trees.specs.declared.identifier.Identifier.{Identifier}
-use Rattle.trees.specs.Trees.{ExpressionTree, ConstantLeaf, ReferenceLeaf, LocationLeaf, ListLeaf, ParenthesizedNode, AssignmentNode, UnaryNode, BinaryNode, ReferenceTree, ReferenceTo, MemberTree, NoMember, MemberOf, ArgumentTrees, NoArguments, MoreArguments, OriginTree, ConstantOrigin, LocationOrigin, RestrictedTree, SubjectTree, SingleSubject, GroupSubject, AtTree, ValueListTree, ItemTree, IterationTree, LoopHeadTree, WhileHead, CountHead}
+use Rattle.trees.specs.Trees.{ExpressionTree, ConstantLeaf, ReferenceLeaf, LocationLeaf, ListLeaf, ParenthesizedNode, AssignmentNode, UnaryNode, BinaryNode, ReferenceTree, ReferenceTo, MemberTree, NoMember, MemberOf, ArgumentTrees, NoArguments, MoreArguments, OriginTree, ConstantOrigin, LocationOrigin, RestrictedTree, SubjectTree, SingleSubject, GroupSubject, AtTree, ValueListTree, ItemTree, IterationTree, LoopHeadTree, of_loop_head}
 
 abbrev mutual
   pub names_in_expression : ExpressionTree → List Identifier
@@ -33,19 +33,19 @@ abbrev pub names_in_optional : {A : Type 0} → (A → List Identifier) → Opti
 names_in_optional names None = []
 names_in_optional names (Some a) = names a
 
--- the head of an iterative DO: the variable, and then the bounds and the step
+-- the bounds and the step of an iterative DO
 abbrev pub names_in_bounds : IterationTree → List Identifier
 names_in_bounds iteration =
     names_in_expression iteration.first ++ names_in_expression iteration.last
     ++ names_in_optional names_in_expression iteration.step
 
+-- the variable of an iterative DO, and then the bounds and the step
 abbrev pub names_in_iteration : IterationTree → List Identifier
 names_in_iteration iteration = iteration.variable ∷ names_in_bounds iteration
 
 -- the head of a loop
 abbrev pub names_in_head : LoopHeadTree → List Identifier
-names_in_head (WhileHead condition) = names_in_expression condition
-names_in_head (CountHead iteration) = names_in_iteration iteration
+names_in_head = of_loop_head names_in_expression names_in_iteration
 
 -- a constant, or the name of the located object
 abbrev pub names_in_origin : OriginTree → List Identifier

@@ -185,7 +185,7 @@ first_code site (WhileHead condition) = []
 first_code site (CountHead head) =
     expression_code site head.first ++ (variable_code site (ToWrite head.scalar) head.variable ∷ Drop ∷ [])
 
--- the test before each turn: the variable of an iterative DO is compared with the last value
+-- the test before each turn: the condition of DO WHILE, or that the variable of an iterative DO is at most the last value
 abbrev pub test_code : Site → TypedHead → List Instruction
 test_code site (WhileHead condition) = expression_code site condition
 test_code site (CountHead head) =
@@ -208,7 +208,7 @@ abbrev pub turn_code : Site → TypedHead → (body : List Instruction) → List
 turn_code site (WhileHead condition) body = body
 turn_code site (CountHead head) body = body ++ step_code site head
 
--- turns of a loop, whose test stands after them
+-- a turn, the test after it, and the jump back to the turn if the test holds
 abbrev pub loop_code : (turn test : List Instruction) → List Instruction
 loop_code turn test = turn ++ (test ++ (LoopBack (length turn + length test) ∷ []))
 

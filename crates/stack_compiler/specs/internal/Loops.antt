@@ -20,11 +20,11 @@ stepping_code site head =
 abbrev pub turned_back : List Instruction → (start : ℕ) → List Instruction
 turned_back code start = code ++ (LoopBack (length code - (start + 1)) ∷ [])
 
--- the same after the test, to which the jump before the body leads
+-- the code so far, the test to which the jump before the body leads, and the way back
 abbrev pub tested : Site → TypedHead → List Instruction → (start : ℕ) → List Instruction
 tested site head code start = turned_back (passing code start ++ test_code site head) start
 
--- the instruction at a place becomes a jump past the end of the code so far, if a condition does not hold
+-- the instruction at a place becomes a jump past the end of the code so far, which is taken if the condition does not hold
 abbrev pub leaving : List Instruction → (at : ℕ) → List Instruction
 leaving code at = slice_set code at (JumpUnless (length code - (at + 1)))
 

@@ -102,7 +102,7 @@ keeps_by :
 unfolding keeps_of_address
 keeps_by context variable its = its.keeps
 
--- the variable of the head of a loop is counted
+-- the variable of an iterative DO is counted
 pub is_counted :
     (context : Context) (head : TypedIteration)
     → IsSound context

@@ -1,5 +1,6 @@
 -- An iterative DO in its general form does what it says, and with it each iterative DO.
 use Rattle.statement_laws.proofs.Prelude.{◌≡◌, ℕ, ◌≤◌, Bool, true, false, List, Some, None, refl, subst, arith, leb-true, Range, Iteration, Facts, label_of, Site, knowing, Counter, Planned, general_steps, test_of, Here, site_of, Does, at_place, loaded_in, BodyContext, IsSoundBody, StatementStands}
+use Rattle.treecode.specs.declared.statement.LoopHead.TheVariants as heads
 use Rattle.treecode.specs.declared.statement.Statement.TheVariants as statements
 use Rattle.statement_laws.proofs.Loops.EnteredLoops.{enters_surely, enters_then, whole_loop}
 use Rattle.statement_laws.proofs.Loops.FirstStored.{FirstThere, first_stored}
@@ -99,7 +100,7 @@ pub each_iterate_does :
     (at : BodyContext) (before : Facts) (head : Iteration) (list : Range) (label from : ℕ)
     (after : Here) (to : ℕ)
     → IsSoundBody at
-    → StatementStands at before (statements.Iterate head list) label from after to
-    → FormDoes at before (statements.Iterate head list) from after to
+    → StatementStands at before (statements.Loop (heads.Count head) list) label from after to
+    → FormDoes at before (statements.Loop (heads.Count head) list) from after to
 each_iterate_does at before head list label from after to sound stands =
     iterate_does at before head list label from after to sound (general_does at) stands

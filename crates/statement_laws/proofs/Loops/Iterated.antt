@@ -1,6 +1,7 @@
 -- An iterative DO, by the form that its code has.
 use Rattle.statement_laws.proofs.Prelude.{◌≡◌, ℕ, Bool, true, false, if◌then◌else◌, List, [], ◌++◌, Option, Some, None, refl, sym, arith, leb-false, value, write_variable, SourceState, as_type, Registers, Range, Iteration, Does, at_place, Facts, Site, number, knowing, Counter, Planned, counter_of, has_a_turn, counts_in_place, first_steps, general_steps, to_known_steps, turns_if_any, turns_steps, Here, site_of, statement_steps, then_again, does_same, loaded_in, BodyContext, IsSoundBody, StatementStands}
-use Rattle.treecode.specs.internal.Lowered.{IsIterate}
+use Rattle.treecode.specs.internal.Lowered.{IsCountHead, IsLoop}
+use Rattle.treecode.specs.declared.statement.LoopHead.TheVariants as heads
 use Rattle.treecode.specs.declared.statement.Statement.TheVariants as statements
 use Rattle.statement_laws.proofs.Loops.EnteredLoops.{enters_never, whole_loop}
 use Rattle.statement_laws.proofs.Loops.FirstStored.{FirstThere, first_stored, first_stores}
@@ -146,11 +147,12 @@ pub iterate_does :
     (after : Here) (to : ℕ)
     → IsSoundBody at
     → GeneralDoes at
-    → StatementStands at before (statements.Iterate head list) label from after to
-    → FormDoes at before (statements.Iterate head list) from after to
+    → StatementStands at before (statements.Loop (heads.Count head) list) label from after to
+    → FormDoes at before (statements.Loop (heads.Count head) list) from after to
 unfolding statement_steps
 iterate_does at before head list label from after to sound general stands bound _
-    (IsIterate {tree = tree} {list = body} is is_list) types lists base s r memory below room ready known =
+    (IsLoop {list = body} (IsCountHead {tree = tree} is) is_list) types lists base s r memory below
+    room ready known =
     let loop = loop_of at base to after s tree body below in
     let iterates =
     iterates_so at base to after s tree body below head list bound sound is is_list
@@ -172,11 +174,12 @@ pub to_known_does :
     → number (knowing (site_of at.body) before) head.last ≡ Some last
     → counts_in_place (knowing (site_of at.body) before)
     (counter_of (knowing (site_of at.body) before) head) head ≡ true
-    → StatementStands at before (statements.Iterate head list) label from after to
-    → FormDoes at before (statements.Iterate head list) from after to
+    → StatementStands at before (statements.Loop (heads.Count head) list) label from after to
+    → FormDoes at before (statements.Loop (heads.Count head) list) from after to
 unfolding statement_steps
 to_known_does at before head list label from after to last sound last_is in_place stands bound _
-    (IsIterate {tree = tree} {list = body} is is_list) types lists base s r memory below room ready known =
+    (IsLoop {list = body} (IsCountHead {tree = tree} is) is_list) types lists base s r memory below
+    room ready known =
     let loop = loop_of at base to after s tree body below in
     let iterates =
     iterates_so at base to after s tree body below head list bound sound is is_list

@@ -100,7 +100,7 @@ then_spends (Stopped Ended t) one rest = record { told = one.told }
 then_spends (Stopped More t) one rest = record { told = one.told }
 then_spends (Stopped (Outside reason) t) one rest = record { told = tt }
 
--- a loop of a body: the head and the list that it is of, where it ends, and what is known there; how much of
+-- an iterative DO of a body: the head and the list that it is of, where it ends, and what is known there; how much of
 -- the budget there was before it, and how many bytes it needs
 pub record Loop (at : BodyContext) : Type 0 where
   pub base : List ℕ

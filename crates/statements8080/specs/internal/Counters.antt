@@ -13,7 +13,7 @@ use Rattle.steps8080.specs.internal.Queries.{location_of, number, place_in_memor
 use Rattle.statements8080.specs.declared.iteration.Counter.{Counter}
 use Rattle.statements8080.specs.internal.Bodies.{whole}
 
--- the variable of the head of a loop
+-- the variable of an iterative DO
 abbrev pub counter_of : Site → Iteration → Counter
 counter_of site head = record {
   reference = whole head.variable;

@@ -26,6 +26,8 @@ use Rattle.treecode.specs.declared.reference.Subscript.{Subscript as IndexNode}
 use Rattle.treecode.specs.declared.reference.Target.{Target}
 use Rattle.treecode.specs.declared.reference.Target.TheVariants as targets
 use Rattle.treecode.specs.declared.statement.Iteration.{Iteration}
+use Rattle.treecode.specs.declared.statement.LoopHead.{LoopHead}
+use Rattle.treecode.specs.declared.statement.LoopHead.TheVariants as heads
 use Rattle.treecode.specs.declared.statement.Statement.{Statement}
 use Rattle.treecode.specs.declared.statement.Statement.TheVariants as statements
 use Rattle.treecode.specs.declared.statement.StatementNumber.{StatementNumber}
@@ -163,6 +165,20 @@ pub record IsIteration
   pub last : IsExpressionIn nodes storage head.last tree.last
   pub step : IsOptional nodes storage head.step tree.step
 
+-- the head of a loop
+pub data IsHead (nodes : Nodes) (storage : Storage) : LoopHead → TypedHead → Type 0 where
+  IsWhileHead : {condition : ExpressionNumber} {test : TypedExpression}
+      → IsExpressionIn nodes storage condition test
+      → IsHead nodes storage (heads.While condition) (WhileHead test)
+  IsCountHead : {head : Iteration} {tree : TypedIteration}
+      → IsIteration nodes storage head tree
+      → IsHead nodes storage (heads.Count head) (CountHead tree)
+
+-- what is given for the condition of a DO WHILE, or for the head of an iterative DO
+abbrev pub for_head : {A : Type 0} → (ExpressionNumber → A) → (Iteration → A) → LoopHead → A
+for_head of_condition of_iteration (heads.While condition) = of_condition condition
+for_head of_condition of_iteration (heads.Count iteration) = of_iteration iteration
+
 mutual
   -- The statement with this number, which is below a bound, represents a tree in a body with these labels.
   -- The number of a label in its body is its position among them.
@@ -214,17 +230,10 @@ mutual
     IsDo : {bound : ℕ} {range : Range} {list : TypedList}
         → IsList nodes storage labels bound range list
         → IsStatementForm nodes storage labels bound (statements.Do range) (DoStatement list)
-    IsWhile : {bound : ℕ} {condition : ExpressionNumber} {range : Range} {test : TypedExpression}
-        {list : TypedList}
-        → IsExpressionIn nodes storage condition test
+    IsLoop : {bound : ℕ} {head : LoopHead} {range : Range} {tree : TypedHead} {list : TypedList}
+        → IsHead nodes storage head tree
         → IsList nodes storage labels bound range list
-        → IsStatementForm nodes storage labels bound (statements.While condition range)
-        (LoopStatement (WhileHead test) list)
-    IsIterate : {bound : ℕ} {head : Iteration} {range : Range} {tree : TypedIteration} {list : TypedList}
-        → IsIteration nodes storage head tree
-        → IsList nodes storage labels bound range list
-        → IsStatementForm nodes storage labels bound (statements.Iterate head range)
-        (LoopStatement (CountHead tree) list)
+        → IsStatementForm nodes storage labels bound (statements.Loop head range) (LoopStatement tree list)
     IsCase : {bound : ℕ} {choice : ExpressionNumber} {range : Range} {tree : TypedExpression}
         {trees : TypedStatements}
         → IsExpressionIn nodes storage choice tree
@@ -290,7 +299,7 @@ abbrev pub ends_by : Option ℕ → Bool
 ends_by None = true
 ends_by (Some number) = not (is_true number)
 
--- whether a loop with this head can end
+-- whether a loop with this head can end, as each iterative DO can
 abbrev pub head_ends : List Home → Storage → TypedHead → Bool
 head_ends starts storage (WhileHead condition) = ends_by (known_number (known_value starts storage condition))
 head_ends starts storage (CountHead head) = true

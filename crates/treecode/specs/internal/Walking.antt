@@ -1,11 +1,13 @@
 -- The nodes that lowering adds for the statements of a body, as functions of the tables and of the tree.
 use Rattle.std.specs.Prelude.{ℕ, zero, suc, ◌+◌, min, max, Bool, true, false, ◌||◌, List, [], ◌∷◌, ◌++◌, length, Option, Some, None, unwrap_or}
-use Rattle.typed_trees.specs.TypedTrees.{TypedExpression, TypedTarget, TypedArguments, TypedIteration, TypedStatement, LabelStatement, NullStatement, AssignmentStatement, CallStatement, MoveStatement, ReturnStatement, HaltStatement, GotoStatement, IfStatement, DoStatement, LoopStatement, WhileHead, CountHead, CaseStatement, TypedElse, NoElse, ElseStatement, TypedStatements, NoStatements, MoreStatements, TypedList, ListOf}
+use Rattle.typed_trees.specs.TypedTrees.{TypedExpression, TypedTarget, TypedArguments, TypedIteration, TypedHead, WhileHead, CountHead, TypedStatement, LabelStatement, NullStatement, AssignmentStatement, CallStatement, MoveStatement, ReturnStatement, HaltStatement, GotoStatement, IfStatement, DoStatement, LoopStatement, CaseStatement, TypedElse, NoElse, ElseStatement, TypedStatements, NoStatements, MoreStatements, TypedList, ListOf}
 use Rattle.layout.specs.Storage.{Storage}
 use Rattle.treecode.specs.declared.expression.ExpressionNumber.{ExpressionNumber}
 use Rattle.treecode.specs.declared.lists.Range.{Range}
 use Rattle.treecode.specs.declared.reference.Target.{Target}
 use Rattle.treecode.specs.declared.statement.Iteration.{Iteration}
+use Rattle.treecode.specs.declared.statement.LoopHead.{LoopHead}
+use Rattle.treecode.specs.declared.statement.LoopHead.TheVariants as heads
 use Rattle.treecode.specs.declared.statement.Statement.{Statement}
 use Rattle.treecode.specs.declared.statement.Statement.TheVariants as statements
 use Rattle.treecode.specs.declared.statement.StatementNumber.{StatementNumber}
@@ -134,6 +136,16 @@ iteration_in storage walk head =
       },
     )
 
+-- adds the expressions of the head of a loop
+abbrev pub head_in : Storage → Walk → TypedHead → Walk × LoopHead
+head_in storage walk (WhileHead test) = with_item heads.While (value_in storage walk test)
+head_in storage walk (CountHead head) = with_item heads.Count (iteration_in storage walk head)
+
+-- whether a loop with this head can end
+abbrev pub loop_ends : Nodes → LoopHead → Bool
+loop_ends nodes (heads.While condition) = ends_by (number_at nodes condition)
+loop_ends nodes (heads.Count head) = true
+
 -- the numbers of statements that were added, and whether the end of the last one can be reached
 pub record Items : Type 0 where
   pub numbers : List StatementNumber
@@ -169,13 +181,9 @@ put_if condition body made =
 abbrev pub put_do : Walk × AddedList → Walk × AddedStatement
 put_do made = put_statement made.0 (statements.Do (made.1).range) (made.1).reaches_its_end
 
-abbrev pub put_while : ExpressionNumber → Walk × AddedList → Walk × AddedStatement
-put_while condition made =
-    put_statement made.0 (statements.While condition (made.1).range)
-    (ends_by (number_at (made.0).nodes condition))
-
-abbrev pub put_iterate : Iteration → Walk × AddedList → Walk × AddedStatement
-put_iterate head made = put_statement made.0 (statements.Iterate head (made.1).range) true
+abbrev pub put_loop : LoopHead → Walk × AddedList → Walk × AddedStatement
+put_loop head made =
+    put_statement made.0 (statements.Loop head (made.1).range) (loop_ends (made.0).nodes head)
 
 abbrev pub put_case : ExpressionNumber → Walk × AddedList → Walk × AddedStatement
 put_case choice made = put_statement made.0 (statements.Case choice (made.1).range) true
@@ -197,10 +205,8 @@ abbrev mutual
       (statement_in storage (value_in storage walk test).0 then_tree).1
       (else_in storage (statement_in storage (value_in storage walk test).0 then_tree).0 else_tree)
   statement_in storage walk (DoStatement list) = put_do (list_in storage walk list)
-  statement_in storage walk (LoopStatement (WhileHead test) list) =
-      put_while (value_in storage walk test).1 (list_in storage (value_in storage walk test).0 list)
-  statement_in storage walk (LoopStatement (CountHead head) list) =
-      put_iterate (iteration_in storage walk head).1 (list_in storage (iteration_in storage walk head).0 list)
+  statement_in storage walk (LoopStatement head list) =
+      put_loop (head_in storage walk head).1 (list_in storage (head_in storage walk head).0 list)
   statement_in storage walk (CaseStatement tree trees) =
       put_case (value_in storage walk tree).1
       (put_list (items_in storage (value_in storage walk tree).0 true trees))

@@ -5,7 +5,7 @@ use Rattle.std.specs.List.{flat_map}
 use Rattle.std.specs.Option.{option_map_or}
 use Rattle.trees.specs.declared.declaration.Member.{Member}
 use Rattle.trees.specs.declared.identifier.Identifier.{Identifier}
-use Rattle.trees.specs.Trees.{ExpressionTree, ConstantLeaf, ReferenceLeaf, LocationLeaf, ListLeaf, ParenthesizedNode, AssignmentNode, UnaryNode, BinaryNode, ReferenceTree, ReferenceTo, MemberTree, NoMember, MemberOf, ArgumentTrees, NoArguments, MoreArguments, ItemTypeTree, ScalarItem, StructureItem, ElementTree, LiterallyElement, ItemElement, IterationTree, LoopHeadTree, WhileHead, CountHead, StatementTree, LabelledStatement, StatementKindTree, NullStatement, AssignmentStatement, CallStatement, ReturnStatement, HaltStatement, GotoStatement, IfStatement, DoStatement, LoopStatement, CaseStatement, ElseTree, NoElse, ElseStatement, StatementTrees, NoStatements, MoreStatements, DeclarationTree, DeclareTree, ProcedureTree, DeclarationTrees, NoDeclarations, MoreDeclarations, ModuleTree}
+use Rattle.trees.specs.Trees.{ExpressionTree, ConstantLeaf, ReferenceLeaf, LocationLeaf, ListLeaf, ParenthesizedNode, AssignmentNode, UnaryNode, BinaryNode, ReferenceTree, ReferenceTo, MemberTree, NoMember, MemberOf, ArgumentTrees, NoArguments, MoreArguments, ItemTypeTree, ScalarItem, StructureItem, ElementTree, LiterallyElement, ItemElement, IterationTree, LoopHeadTree, of_loop_head, StatementTree, LabelledStatement, StatementKindTree, NullStatement, AssignmentStatement, CallStatement, ReturnStatement, HaltStatement, GotoStatement, IfStatement, DoStatement, LoopStatement, CaseStatement, ElseTree, NoElse, ElseStatement, StatementTrees, NoStatements, MoreStatements, DeclarationTree, DeclareTree, ProcedureTree, DeclarationTrees, NoDeclarations, MoreDeclarations, ModuleTree}
 use Rattle.typing.specs.declared.fault.Cause.TheVariants.{UnknownName, DeclaredTwice}
 use Rattle.typing.specs.declared.fault.Fault.{Fault}
 
@@ -49,8 +49,7 @@ members_in_iteration iteration =
     ++ option_map_or members_in_expression iteration.step []
 
 abbrev pub members_in_head : LoopHeadTree → List Fault
-members_in_head (WhileHead condition) = members_in_expression condition
-members_in_head (CountHead iteration) = members_in_iteration iteration
+members_in_head = of_loop_head members_in_expression members_in_iteration
 
 -- a structure declares its members
 abbrev pub members_in_type : ItemTypeTree → List Fault

@@ -1,7 +1,7 @@
-use Rattle.treecode.proofs.Prelude.{◌≡◌, List, rules, ap, sym, ◌∙◌, true, arith, CaseStatement, DoStatement, LoopStatement, expression_view, head_view, iteration_view, list_view, statement_view, statements_view, layout_view, StatementNumber, walk_of, items_in, statements_in}
+use Rattle.treecode.proofs.Prelude.{◌≡◌, List, rules, ap, sym, ◌∙◌, true, arith, CaseStatement, DoStatement, LoopStatement, expression_view, head_view, list_view, statement_view, statements_view, layout_view, StatementNumber, walk_of, items_in, statements_in}
 use Rattle.treecode.proofs.PutNodes.{list_put, outside_lists}
 use Rattle.treecode.proofs.StatementLoops.{items_all_added}
-use Rattle.treecode.proofs.StatementViews.{case_returned, case_view, do_returned, do_view, iterate_returned, loop_view, view_returned, while_returned}
+use Rattle.treecode.proofs.StatementViews.{case_returned, case_view, do_returned, do_view, loop_returned, loop_view, view_returned}
 use Rattle.treecode.proofs.lowering.Lowering.+statement.Goals as goal
 
 pub choose_case-returns-clause-ok : goal.choose_case-returns-clause-ok
@@ -16,22 +16,13 @@ choose_case-returns-clause-ok t c =
     ∙ c.in_ok-body.ensures.ok)
     c.add.ensures.ok
 
-pub repeat-returns-in_ok-body-in-While-clause-ok : goal.repeat-returns-in_ok-body-in-While-clause-ok
-repeat-returns-in_ok-body-in-While-clause-ok t c =
-    while_returned c.add.result (layout_view c.args.storage.now) (walk_of c.args.self.now) _
-    c.args.turns.now.head (expression_view c.in-While.condition) (list_view c.args.turns.now.body)
-    (walk_of c.value.new.self) c.in_ok-condition-in-While.condition (walk_of c.list.new.self)
-    c.in_ok-body-in-While.body c.ends-reaches_its_end.result (ap head_view c.in-While.is)
-    c.in_ok-condition-in-While.ensures.ok c.in_ok-body-in-While.ensures.ok c.ends-reaches_its_end.ensures
-    c.add.ensures.ok
-
-pub repeat-returns-in_ok-body-in-Count-clause-ok : goal.repeat-returns-in_ok-body-in-Count-clause-ok
-repeat-returns-in_ok-body-in-Count-clause-ok t c =
-    iterate_returned c.add-in-Count.result (layout_view c.args.storage.now) (walk_of c.args.self.now) _
-    c.args.turns.now.head (iteration_view c.in-Count.head) (list_view c.args.turns.now.body)
-    (walk_of c.iteration.new.self) c.in_ok-head-in-Count.head (walk_of c.list-in-Count.new.self)
-    c.in_ok-body-in-Count.body (ap head_view c.in-Count.is) c.in_ok-head-in-Count.ensures.ok
-    c.in_ok-body-in-Count.ensures.ok c.add-in-Count.ensures.ok
+pub repeat-returns-clause-ok : goal.repeat-returns-clause-ok
+repeat-returns-clause-ok t c =
+    loop_returned c.add.result (layout_view c.args.storage.now) (walk_of c.args.self.now) _
+    (head_view c.args.turns.now.head) (list_view c.args.turns.now.body)
+    (walk_of c.head.new.self) c.in_ok-head.head (walk_of c.list.new.self) c.in_ok-body.body
+    c.ends-reaches_its_end.result
+    c.in_ok-head.ensures.ok c.in_ok-body.ensures.ok c.ends-reaches_its_end.ensures c.add.ensures.ok
 
 pub statement-returns-in_ok-list-in-Do-clause-ok : goal.statement-returns-in_ok-list-in-Do-clause-ok
 statement-returns-in_ok-list-in-Do-clause-ok t c =
