@@ -2,6 +2,7 @@ pub mod Numbers
 pub mod Labels
 pub mod Classes
 pub mod Groups
+pub mod Sides
 pub mod Matching
 pub mod Texts
 pub mod Lists

@@ -23,6 +23,7 @@ mod origins;
 mod preparing;
 mod rule;
 mod rules;
+mod sides;
 mod source;
 mod switches;
 mod texts;

@@ -42,7 +42,7 @@ const NAME: Part = Part::Is(Class::Name);
 const SPACE: Put = Put::Text(b" ");
 
 /// The rules.
-pub static RULES: [Rule; 69] = [
+pub static RULES: [Rule; 70] = [
     // words
     Rule {
         parts: &[
@@ -142,6 +142,12 @@ pub static RULES: [Rule; 69] = [
     Rule {
         parts: &[PERIOD, Part::Is(Class::Constant)],
         action: Action::Tell("a dot before a name for a number: write .(N), or another name"),
+    },
+    Rule {
+        parts: &[Part::Clash],
+        action: Action::Tell(
+            "a variable that one side of = assigns and the other uses: write the assignment as a statement, before or after",
+        ),
     },
     Rule {
         parts: &[NAME, Part::Assigning],
