@@ -18,6 +18,7 @@ pub mod Switches
 pub mod Blocks
 pub mod Includes
 pub mod Advice
+pub mod Comments
 pub mod Assembly
 pub mod Sources
 pub mod Origins
