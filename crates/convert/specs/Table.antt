@@ -84,6 +84,7 @@ table_of_rules =
     ∷ record { parts = (parts.Is (classes.Reserved words.External)) ∷ (parts.Is (classes.Reserved words.Data)) ∷ []; action = Writes ((PutsCopy 0) ∷ []) }
     ∷ record { parts = (parts.Is (classes.Reserved words.External)) ∷ (parts.Is (classes.Reserved words.Initial)) ∷ []; action = Tells (codes "EXTERNAL with INITIAL: write the values where the name is PUBLIC") }
     ∷ record { parts = (parts.Is (classes.Reserved words.Initial)) ∷ parts.Group ∷ (parts.Is (classes.Reserved words.External)) ∷ []; action = Tells (codes "EXTERNAL with INITIAL: write the values where the name is PUBLIC") }
+    ∷ record { parts = (parts.Is classes.Name) ∷ (parts.Is (classes.Reserved words.Data)) ∷ parts.Group ∷ (parts.Is (classes.Reserved words.Public)) ∷ []; action = Writes ((PutsCopy 0) ∷ (PutsText (codes "(*) BYTE ")) ∷ (PutsCopy 3) ∷ (PutsText (codes " ")) ∷ (PutsCopy 1) ∷ (PutsText (codes " ")) ∷ (PutsCopy 2) ∷ []) }
     ∷ record { parts = (parts.Is classes.Name) ∷ (parts.Is (classes.Reserved words.Data)) ∷ []; action = Writes ((PutsCopy 0) ∷ (PutsText (codes "(*) BYTE ")) ∷ (PutsCopy 1) ∷ []) }
     ∷ record { parts = parts.BasedOne ∷ []; action = Writes ((PutsInner 0) ∷ []) }
     ∷ record { parts = parts.BasedList ∷ parts.Type ∷ parts.Attribute ∷ []; action = Tells (codes "a list with BASED: write each name with its own attributes") }

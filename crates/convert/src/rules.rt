@@ -42,7 +42,7 @@ const NAME: Part = Part::Is(Class::Name);
 const SPACE: Put = Put::Text(b" ");
 
 /// The rules.
-pub static RULES: [Rule; 70] = [
+pub static RULES: [Rule; 71] = [
     // words
     Rule {
         parts: &[
@@ -231,6 +231,18 @@ pub static RULES: [Rule; 70] = [
     Rule {
         parts: &[INITIAL, Part::Group, EXTERNAL],
         action: Action::Tell("EXTERNAL with INITIAL: write the values where the name is PUBLIC"),
+    },
+    Rule {
+        parts: &[NAME, DATA, Part::Group, PUBLIC],
+        action: Action::Write(&[
+            Put::Copy(0),
+            Put::Text(b"(*) BYTE "),
+            Put::Copy(3),
+            SPACE,
+            Put::Copy(1),
+            SPACE,
+            Put::Copy(2),
+        ]),
     },
     Rule {
         parts: &[NAME, DATA],
