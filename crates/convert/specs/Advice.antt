@@ -16,6 +16,7 @@ pub record AdviceView : Type 0 where
   pub no_names : List ℕ
   pub no_switch : List ℕ
   pub no_feed : List ℕ
+  pub inner_comment : List ℕ
 
 abbrev pub advice_view : Advice → AdviceView
 advice_view advice = record {
@@ -31,6 +32,7 @@ advice_view advice = record {
   no_names = advice.no_names.now;
   no_switch = advice.no_switch.now;
   no_feed = advice.no_feed.now;
+  inner_comment = advice.inner_comment.now;
 }
 
 abbrev pub usual_advice : AdviceView
@@ -48,4 +50,5 @@ usual_advice = record {
   no_names = codes "SET or RESET: other than names: write names with commas between them";
   no_switch = codes "--set: no name of a switch: give a letter, and then letters, digits, $ and _";
   no_feed = codes "CR without any LF, so that all is one line: write LF in place of each CR";
+  inner_comment = codes "/* in a comment: write */ where that comment should end, or delete the /*";
 }

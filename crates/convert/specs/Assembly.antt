@@ -14,6 +14,7 @@ use Rattle.convert.specs.declared.controls.ControlKind.{ControlKind}
 use Rattle.convert.specs.declared.controls.ControlKind.TheVariants.{Include, If, ElseIf, Else, EndIf, Set, Reset, Other}
 use Rattle.convert.specs.declared.includes.Entry.{Entry}
 use Rattle.convert.specs.Blocks.{applies, blocks_after, concern_at}
+use Rattle.convert.specs.Comments.{comment_notes}
 use Rattle.convert.specs.Controls.{argument_of, is_last, kind_at, last_control, step_at, word_length}
 use Rattle.convert.specs.Includes.{Answer, absent, answer_of, file_name, no_name, present, unknown}
 use Rattle.convert.specs.Lines.{is_control, is_unbroken, lines_of, lines_of_file, return_of}
@@ -192,12 +193,21 @@ with_ends advice file text parts =
     if is_unbroken text && is_control text
     then with_note (record { place = record { file = file; line = 1 }; text = advice.no_feed }) parts else parts
 
+-- what is told of comments in a file that is included
+abbrev pub with_comments : Advice → ℕ → List ℕ → Parts → Parts
+with_comments advice file text parts =
+    record parts { notes = parts.notes ++ comment_notes advice file text }
+
+-- what is told of a file that is included, before its lines
+abbrev pub begun : Advice → ℕ → List ℕ → Parts → Parts
+begun advice file text parts = with_comments advice file text (with_ends advice file text parts)
+
 -- the lines of a file that is included, and of those that it includes, where files may be so deep
 abbrev pub file_put : Advice → List Entry → (depth : ℕ) → Place → List ℕ → ℕ → List ℕ → Parts → Parts
 file_put advice entries zero place line file text parts =
     with_told line (record { place = place; text = advice.too_deep }) parts
 file_put advice entries (suc depth) place line file text parts =
-    lines_put advice entries (file_put advice entries depth) file 1 (lines_of_file text) [] (with_ends advice file text parts)
+    lines_put advice entries (file_put advice entries depth) file 1 (lines_of_file text) [] (begun advice file text parts)
 
 -- the line of a number of the source
 abbrev pub line_of_source : ℕ → Place

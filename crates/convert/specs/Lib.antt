@@ -2,6 +2,7 @@ pub mod Numbers
 pub mod Labels
 pub mod Classes
 pub mod Groups
+pub mod Sides
 pub mod Matching
 pub mod Texts
 pub mod Lists
@@ -17,6 +18,7 @@ pub mod Switches
 pub mod Blocks
 pub mod Includes
 pub mod Advice
+pub mod Comments
 pub mod Assembly
 pub mod Sources
 pub mod Origins

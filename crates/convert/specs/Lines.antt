@@ -1,12 +1,22 @@
 -- Lines of old sources.
-use Rattle.std.specs.Prelude.{ℕ, ◌-◌, Bool, false, not, ◌==◌, ◌&&◌, ◌||◌, if◌then◌else◌}
-use Rattle.std.specs.Prelude.{List, [], ◌∷◌, length, take, get_or}
+use Rattle.std.specs.Prelude.{ℕ, ◌-◌, Bool, true, false, not, ◌==◌, ◌&&◌, if◌then◌else◌}
+use Rattle.std.specs.Prelude.{List, [], ◌∷◌, ◌++◌, length, take, get_or}
 use Rattle.std.specs.List.{list_any, slice_split}
+use Rattle.convert.specs.Edits.{gap}
 
--- a text up to the first ^Z (26), without form feeds (12) and zeros
+-- a blank between two bytes that would be of one word, if a form feed stood there
+abbrev pub fed_gap : (fed : Bool) → ℕ → ℕ → List ℕ
+fed_gap fed before after = if fed then gap before after else []
+
+-- a text up to the first ^Z (26), without form feeds (12) and zeros, after a byte and, if `fed`, a form feed
+abbrev pub plain_after : ℕ → (fed : Bool) → List ℕ → List ℕ
+plain_after last fed [] = []
+plain_after last fed (c ∷ source) =
+    if c == 26 then [] else (if c == 12 then plain_after last true source else
+    (if c == 0 then plain_after last fed source else fed_gap fed last c ++ (c ∷ plain_after c false source)))
+
 abbrev pub plain : List ℕ → List ℕ
-plain [] = []
-plain (c ∷ source) = if c == 26 then [] else (if (c == 12) || (c == 0) then plain source else c ∷ plain source)
+plain source = plain_after 32 false source
 
 -- the lines of a text, without the line feeds (10) between them
 abbrev pub lines_of : List ℕ → List (List ℕ)

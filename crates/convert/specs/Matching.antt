@@ -9,6 +9,7 @@ use Rattle.convert.specs.declared.rule.Part.{Part}
 use Rattle.convert.specs.declared.rule.Part.TheVariants as parts
 use Rattle.convert.specs.Numbers.{class_number, is_attribute, is_type, is_scope, is_values, is_name}
 use Rattle.convert.specs.Groups.{group_length, inner, commas, has_outside, is_based, is_assign, has_text}
+use Rattle.convert.specs.Sides.{clash_length}
 
 -- one word, if it passes a test
 abbrev pub one : (Class → Bool) → List Seen → ℕ
@@ -71,6 +72,7 @@ part_length parts.Assigning first words = assigning_length words
 part_length parts.ItemsFor first words = items_length first words
 part_length parts.Attribute first words = one is_attribute words
 part_length parts.EndOfText first words = end_length words
+part_length parts.Clash first words = clash_length words
 
 -- How many words at the front are the parts of a rule, after this many words; 0 if one does not fit there.
 abbrev pub length_of_parts : ℕ → List Part → ℕ → List Seen → ℕ

@@ -5,6 +5,7 @@ use Rattle.convert.specs.declared.assembly.PlacedNote.{PlacedNote}
 use Rattle.convert.specs.declared.preparing.Medium.{Medium}
 use Rattle.convert.specs.Assembly.{line_of_source}
 use Rattle.convert.specs.Cards.{carded}
+use Rattle.convert.specs.Comments.{comment_notes}
 use Rattle.convert.specs.Lines.{is_control, is_unbroken, plain}
 use Rattle.convert.specs.Listings.{listing_notes, unlisted}
 
@@ -34,6 +35,8 @@ notes_of_ends advice medium text =
     if is_unbroken text && loses_lines medium text
     then record { place = line_of_source 1; text = advice.no_feed } ∷ [] else []
 
--- what is told of the lines of a file
+-- what is told of the lines of a file, and of comments in its source
 abbrev pub prepared_notes : Advice → Medium → List ℕ → List PlacedNote
-prepared_notes advice medium file = notes_of_listing advice medium.listing file ++ notes_of_ends advice medium (plain file)
+prepared_notes advice medium file =
+    (notes_of_listing advice medium.listing file ++ notes_of_ends advice medium (plain file))
+    ++ comment_notes advice 0 (plain (prepared medium file))

@@ -65,6 +65,7 @@ table_of_rules =
     ∷ record { parts = (parts.Is (classes.Mark marks.Period)) ∷ (parts.Is classes.String) ∷ []; action = Writes ((PutsText (codes ".(")) ∷ (PutsCopy 1) ∷ (PutsText (codes ")")) ∷ []) }
     ∷ record { parts = (parts.Is (classes.Mark marks.Period)) ∷ (parts.Is classes.Number) ∷ []; action = Writes ((PutsText (codes ".(")) ∷ (PutsCopy 1) ∷ (PutsText (codes ")")) ∷ []) }
     ∷ record { parts = (parts.Is (classes.Mark marks.Period)) ∷ (parts.Is classes.Constant) ∷ []; action = Tells (codes "a dot before a name for a number: write .(N), or another name") }
+    ∷ record { parts = parts.Clash ∷ []; action = Tells (codes "a variable that one side of = assigns and the other uses: write the assignment as a statement, before or after") }
     ∷ record { parts = (parts.Is classes.Name) ∷ parts.Assigning ∷ []; action = Writes ((PutsCopy 0) ∷ (PutsWrapped 1) ∷ []) }
     ∷ record { parts = (parts.Is (classes.Reserved words.Declare)) ∷ parts.Names ∷ (parts.Is (classes.Reserved words.Label)) ∷ parts.Scope ∷ []; action = Tells (codes "a label of several modules: write a procedure, PUBLIC and EXTERNAL") }
     ∷ record { parts = (parts.Is (classes.Mark marks.Comma)) ∷ parts.Names ∷ (parts.Is (classes.Reserved words.Label)) ∷ parts.Scope ∷ []; action = Tells (codes "a label of several modules: write a procedure, PUBLIC and EXTERNAL") }
@@ -83,6 +84,7 @@ table_of_rules =
     ∷ record { parts = (parts.Is (classes.Reserved words.External)) ∷ (parts.Is (classes.Reserved words.Data)) ∷ []; action = Writes ((PutsCopy 0) ∷ []) }
     ∷ record { parts = (parts.Is (classes.Reserved words.External)) ∷ (parts.Is (classes.Reserved words.Initial)) ∷ []; action = Tells (codes "EXTERNAL with INITIAL: write the values where the name is PUBLIC") }
     ∷ record { parts = (parts.Is (classes.Reserved words.Initial)) ∷ parts.Group ∷ (parts.Is (classes.Reserved words.External)) ∷ []; action = Tells (codes "EXTERNAL with INITIAL: write the values where the name is PUBLIC") }
+    ∷ record { parts = (parts.Is classes.Name) ∷ (parts.Is (classes.Reserved words.Data)) ∷ parts.Group ∷ (parts.Is (classes.Reserved words.Public)) ∷ []; action = Writes ((PutsCopy 0) ∷ (PutsText (codes "(*) BYTE ")) ∷ (PutsCopy 3) ∷ (PutsText (codes " ")) ∷ (PutsCopy 1) ∷ (PutsText (codes " ")) ∷ (PutsCopy 2) ∷ []) }
     ∷ record { parts = (parts.Is classes.Name) ∷ (parts.Is (classes.Reserved words.Data)) ∷ []; action = Writes ((PutsCopy 0) ∷ (PutsText (codes "(*) BYTE ")) ∷ (PutsCopy 1) ∷ []) }
     ∷ record { parts = parts.BasedOne ∷ []; action = Writes ((PutsInner 0) ∷ []) }
     ∷ record { parts = parts.BasedList ∷ parts.Type ∷ parts.Attribute ∷ []; action = Tells (codes "a list with BASED: write each name with its own attributes") }

@@ -3,8 +3,8 @@
 ghost use Rattle.std.specs.Prelude.{◌≡◌};
 ghost use Rattle.convert.specs.Advice.{advice_view, usual_advice};
 
-/// What is told of lines of a listing that are not understood, and of controls that are not carried out: what it is, and what to
-/// write.
+/// What is told of lines of a listing that are not understood, of comments, and of controls that are not carried out: what it is,
+/// and what to write.
 #[derive(Clone, Copy)]
 pub struct Advice {
     /// A line of a listing is the rest of the line before it.
@@ -31,6 +31,8 @@ pub struct Advice {
     pub no_switch: &'static str,
     /// Lines end with a return alone.
     pub no_feed: &'static str,
+    /// A comment begins in a comment.
+    pub inner_comment: &'static str,
 }
 
 /// What is told by `plm convert`.
@@ -47,6 +49,7 @@ pub static USUAL_ADVICE: Advice = Advice {
     no_names: "SET or RESET: other than names: write names with commas between them",
     no_switch: "--set: no name of a switch: give a letter, and then letters, digits, $ and _",
     no_feed: "CR without any LF, so that all is one line: write LF in place of each CR",
+    inner_comment: "/* in a comment: write */ where that comment should end, or delete the /*",
 };
 
 /// The same, for a contract.

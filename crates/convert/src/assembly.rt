@@ -1,7 +1,7 @@
 //! A source with its files put in.
 
 ghost use Rattle.std.specs.Prelude.{◌≡◌, ◌++◌, [], map, IfOk};
-ghost use Rattle.convert.specs.Assembly.{as_it_is, assembled, conditioned, controlled, blocks_put, file_put, included, line_of_source, line_put, lines_put, notes_of_sets, parts_of, parts_with, places_from, switched, switched_by, told_on, told_open, value_at, with_ends, with_line, with_names, with_note, with_told, with_wanted};
+ghost use Rattle.convert.specs.Assembly.{as_it_is, assembled, begun, conditioned, controlled, blocks_put, file_put, included, line_of_source, line_put, lines_put, notes_of_sets, parts_of, parts_with, places_from, switched, switched_by, told_on, told_open, value_at, with_comments, with_ends, with_line, with_names, with_note, with_told, with_wanted};
 ghost use Rattle.convert.specs.Controls.{argument_of, kind_at};
 ghost use Rattle.convert.specs.Lines.{lines_of};
 ghost use Rattle.convert.specs.Blocks.{blocks_after};
@@ -9,6 +9,7 @@ ghost use Rattle.convert.specs.Switches.{items_of};
 
 use crate::advice::Advice;
 use crate::blocks::{Block, Concern, applies, change_blocks, concern_at};
+use crate::comments::note_comments;
 use crate::controls::{
     ControlKind, after_word, argument_of, is_last, kind_at, last_control, step_at,
 };
@@ -140,6 +141,35 @@ fn tell_ends(
     }
 }
 
+// Adds what is told of comments in a file that is included.
+fn tell_comments(
+    alloc: Global,
+    advice: &Advice,
+    file: usize,
+    text: &[u8],
+    assembly: &mut Assembly,
+) -> Result<(), AllocError>
+    ensures { IfOk result (λ _. parts_of assembly.new
+        ≡ with_comments advice.now file text.now (parts_of assembly.old)) }
+{
+    note_comments(alloc, advice, file, text, &mut assembly.notes)
+}
+
+// Adds what is told of a file that is included, before its lines.
+fn begin_file(
+    alloc: Global,
+    advice: &Advice,
+    file: usize,
+    text: &[u8],
+    assembly: &mut Assembly,
+) -> Result<(), AllocError>
+    ensures { IfOk result (λ _. parts_of assembly.new
+        ≡ begun advice.now file text.now (parts_of assembly.old)) }
+{
+    tell_ends(advice, file, text, assembly)?;
+    tell_comments(alloc, advice, file, text, assembly)
+}
+
 // Adds the name of a file that was not looked for.
 fn want(alloc: Global, name: &[u8], assembly: &mut Assembly) -> Result<(), AllocError>
     ensures { IfOk result (λ _. parts_of assembly.new ≡ with_wanted name.now (parts_of assembly.old)) }
@@ -266,7 +296,7 @@ fn put_file<'a>(
         let text = advice.too_deep;
         return tell_line(line, PlacedNote { place, text }, assembly);
     }
-    tell_ends(advice, file, text, assembly)?;
+    begin_file(alloc, advice, file, text, assembly)?;
     let lines = lines_of_file(alloc, text)?;
     put_lines(
         alloc,

@@ -160,7 +160,8 @@ fn is_based(class: Class) -> bool
     }
 }
 
-fn is_assign(class: Class) -> bool
+/// Whether a word is `:=`.
+pub(crate) fn is_assign(class: Class) -> bool
     ensures { result ≡ is_assign class }
 {
     match class {

@@ -47,8 +47,8 @@ fn has_label(name: Name, words: &[Seen]) -> bool
     false
 }
 
-// Whether a word with this text is this name.
-fn is_text_of(name: Name, text: &[u8]) -> bool
+/// Whether a word with this text is this name.
+pub(crate) fn is_text_of(name: Name, text: &[u8]) -> bool
     ensures { result ≡ is_text_of name text.now }
 {
     match Name::from_text(text) {

@@ -1,31 +1,53 @@
 //! Lines of old sources.
 
-ghost use Rattle.std.specs.Prelude.{◌≡◌, ◌≤◌, ◌==◌, ◌||◌, ◌-◌, get_or, length, map, IfOk};
-ghost use Rattle.convert.specs.Lines.{is_control, is_unbroken, lines_of, lines_of_file, plain, return_of};
+ghost use Rattle.std.specs.Prelude.{◌≡◌, ◌≤◌, ◌==◌, ◌||◌, ◌+◌, ◌-◌, ◌++◌, [], ◌∷◌, get_or, length, map, IfOk};
+ghost use Rattle.convert.specs.Lines.{fed_gap, is_control, is_unbroken, lines_of, lines_of_file, plain, return_of};
+ghost use Rattle.convert.specs.internal.Feeds.{waiting};
 
+use crate::edit::is_word_byte;
 use std::alloc::{AllocError, Global};
 
 const END_OF_TEXT: u8 = 26;
 
 const FORM_FEED: u8 = 12;
 
-/// A text up to the first ^Z, without form feeds and zeros.
+/// A text up to the first ^Z, without form feeds and zeros. A form feed still parts two words.
 pub fn plain(alloc: Global, source: &[u8]) -> Result<Vec<u8>, AllocError>
     ensures plain { IfOk result (λ text. text.items ≡ plain source.now) }
     ensures shorter { IfOk result (λ text. length text.items ≤ length source.now) }
 {
     let mut text = Vec::new(alloc);
+    let mut last = b' ';
+    let mut fed = false;
     let mut rest = source;
     while let [byte, more @ ..] = rest {
         if *byte == END_OF_TEXT {
             return Ok(text);
         }
         rest = more;
-        if *byte != FORM_FEED && *byte != 0 {
-            text.push(*byte)?;
+        if *byte == FORM_FEED {
+            fed = true;
+            continue;
+        }
+        if *byte != 0 {
+            add_byte(last, fed, *byte, &mut text)?;
+            last = *byte;
+            fed = false;
         }
     }
     Ok(text)
+}
+
+// Adds a byte after another, apart if both would be of one word and a form feed stood between them.
+fn add_byte(last: u8, fed: bool, byte: u8, text: &mut Vec<u8>) -> Result<(), AllocError>
+    ensures added { IfOk result (λ _. text.new.items ≡ text.old.items ++ (fed_gap fed last byte ++ byte ∷ [])) }
+    ensures few { IfOk result (λ _. length text.new.items ≤ length text.old.items + (1 + waiting fed)) }
+{
+    if fed && is_word_byte(last) && is_word_byte(byte) {
+        text.push(b' ')?;
+    }
+    text.push(byte)?;
+    Ok(())
 }
 
 /// The lines of a text, without the line feeds between them.

@@ -8,6 +8,7 @@ use crate::class::{Class, Seen};
 use crate::groups::{commas, group_length, has_assignment, has_based, has_text, inner};
 use crate::numbers::class_number;
 use crate::rule::Part;
+use crate::sides::clash_length;
 use words::ReservedWord;
 
 /// How many words at the front are the parts of a rule; 0 if one does not fit there. The rule's first part has this many
@@ -61,6 +62,7 @@ pub(crate) fn part_length(part: Part, first: usize, words: &[Seen]) -> usize
             _ => 0,
         },
         Part::EndOfText => end_length(words),
+        Part::Clash => clash_length(words),
     }
 }
 

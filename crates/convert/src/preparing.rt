@@ -1,12 +1,15 @@
 //! What of a file is the source.
 
 ghost use Rattle.std.specs.Prelude.{◌≡◌, ◌++◌, map, true, IfOk};
+ghost use Rattle.convert.specs.Comments.{comment_notes};
+ghost use Rattle.convert.specs.Lines.{plain};
 ghost use Rattle.convert.specs.Listings.{listed_text, listing_notes_from};
 ghost use Rattle.convert.specs.Preparing.{from_listing, loses_lines, notes_of_ends, notes_of_listing, prepared, prepared_notes};
 
 use crate::advice::Advice;
 use crate::assembly::PlacedNote;
 use crate::cards::carded;
+use crate::comments::note_comments;
 use crate::lines::{is_control, is_unbroken, lines_of, plain};
 use crate::listings::{join_listed, note_listing, tell};
 use std::alloc::{AllocError, Global};
@@ -40,7 +43,18 @@ pub fn prepare(
     let mut made = from_medium(alloc, advice, medium, file)?;
     let text = plain(alloc, file)?;
     note_ends(advice, medium, text.as_slice(), &mut made.notes)?;
+    note_source(alloc, advice, &mut made)?;
     Ok(made)
+}
+
+// Adds what is told of comments in a source.
+fn note_source(alloc: Global, advice: &Advice, source: &mut Prepared) -> Result<(), AllocError>
+    ensures text { IfOk result (λ _. source.new.text ≡ source.old.text) }
+    ensures notes { IfOk result (λ _. source.new.notes.items
+        ≡ source.old.notes.items ++ comment_notes advice.now 0 (plain source.old.text.items)) }
+{
+    let text = plain(alloc, source.text.as_slice())?;
+    note_comments(alloc, advice, 0, text.as_slice(), &mut source.notes)
 }
 
 // Whether what a file holds would be lost after its first line.

@@ -31,6 +31,8 @@ pub enum Part {
     Attribute,
     /// EOF, if it is the last word of the text.
     EndOfText,
+    /// The sides of a `=`, with it, one of which assigns a name that the other uses.
+    Clash,
 }
 
 /// A piece of what a rule writes. A part is given by its number, from 0.

@@ -42,7 +42,7 @@ const NAME: Part = Part::Is(Class::Name);
 const SPACE: Put = Put::Text(b" ");
 
 /// The rules.
-pub static RULES: [Rule; 69] = [
+pub static RULES: [Rule; 71] = [
     // words
     Rule {
         parts: &[
@@ -144,6 +144,12 @@ pub static RULES: [Rule; 69] = [
         action: Action::Tell("a dot before a name for a number: write .(N), or another name"),
     },
     Rule {
+        parts: &[Part::Clash],
+        action: Action::Tell(
+            "a variable that one side of = assigns and the other uses: write the assignment as a statement, before or after",
+        ),
+    },
+    Rule {
         parts: &[NAME, Part::Assigning],
         action: Action::Write(&[Put::Copy(0), Put::Wrapped(1)]),
     },
@@ -225,6 +231,18 @@ pub static RULES: [Rule; 69] = [
     Rule {
         parts: &[INITIAL, Part::Group, EXTERNAL],
         action: Action::Tell("EXTERNAL with INITIAL: write the values where the name is PUBLIC"),
+    },
+    Rule {
+        parts: &[NAME, DATA, Part::Group, PUBLIC],
+        action: Action::Write(&[
+            Put::Copy(0),
+            Put::Text(b"(*) BYTE "),
+            Put::Copy(3),
+            SPACE,
+            Put::Copy(1),
+            SPACE,
+            Put::Copy(2),
+        ]),
     },
     Rule {
         parts: &[NAME, DATA],
