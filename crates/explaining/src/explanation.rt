@@ -3,13 +3,15 @@
 use crate::globals::{Declarations, add_mains, add_missing, show_declarations};
 use crate::kept_files::{Content, KeptFile, find_kept, kept_bytes};
 use crate::kinds::as_object;
-use crate::object_names::{add_externals, add_missing_objects, add_objects};
+use crate::object_names::{add_externals, add_missing_objects, add_objects, add_starts};
 use crate::options::explain_value;
 use crate::page::{Page, Piece};
 use crate::ranges::{add_object, add_ranges};
 use crate::refused::explain_source;
 use crate::told::{Told, told_in};
 use crate::twice::add_named_twice;
+use crate::unwritten::cause_of_file;
+use crate::wrong_options::cure_of_option;
 use std::alloc::Global;
 
 /// What is looked at beside the line of a fault: the words of the command line, the names of tables of lines, and the files
@@ -22,13 +24,10 @@ pub(crate) struct Seen<'s> {
     pub(crate) files: &'s [KeptFile],
 }
 
-// What a fault means: of a file that can't be read, and of one that is no object file, by what is known of the file.
-fn cause_of(seen: &Seen, told: Told) -> &'static str {
+// What a fault means: of a file that can't be read or written, and of one that is no object file, by what is known of it.
+fn cause_of(page: &mut Page, seen: &Seen, told: Told) -> &'static str {
     let cause = match (told.number.as_bytes(), find_kept(seen.files, told.place)) {
-        ([b'U', b'3'], Some(Content::Missing)) => Some("No such file is there"),
-        ([b'U', b'3'], Some(Content::Closed)) => {
-            Some("It is there and can't be read: a folder, or its permissions do not allow it")
-        }
+        ([b'U', b'3'], _) => cause_of_file(page, seen, told.place),
         ([b'O', ..], Some(Content::Bytes(bytes))) => as_object(bytes.as_slice()),
         _ => None,
     };
@@ -44,10 +43,12 @@ fn explain_program(page: &mut Page, seen: &Seen, told: Told) {
         [b'J', b'4'] => add_mains(page, seen.alloc, seen.files),
         [b'J', b'5'] => show_declarations(page, seen, name, Declarations::At),
         [b'L', b'1' | b'2'] => add_objects(page, seen, name),
+        [b'L', b'4'] => add_starts(page, seen),
         [b'P', b'3'] => add_externals(page, seen),
         _ => {}
     }
-    page.cause(cause_of(seen, told), told.number);
+    let cause = cause_of(page, seen, told);
+    page.cause(cause, told.number);
     match told.number.as_bytes() {
         [b'J', b'1'] => add_missing(page, seen.alloc, seen.files),
         [b'J', b'5'] => add_object(page, seen, told.place),
@@ -127,6 +128,11 @@ pub(crate) fn explanation(
     };
     match told_in(printed) {
         Some(told) if status == 1 || status == 2 => explain_fault(&mut page, &seen, told),
+        _ if status == 2 => {
+            if let Some(cure) = cure_of_option(words, printed) {
+                page.sentence(&[Piece::Text(cure)]);
+            }
+        }
         _ => {
             if let Some(meaning) = meaning_of_end(status, words.contains(&"--until-dry")) {
                 page.sentence(&[Piece::Text(meaning)]);

@@ -4,7 +4,9 @@ use crate::left_out::{cure_of, cure_of_strange, is_same_name};
 use crate::naming::{awaited_after, find_object};
 use crate::openers::{Opened, Opener};
 use crate::page::{Page, Piece};
-use crate::statements::{is_reserved_name, line_of_do, may_end_after, said_at, statement_of};
+use crate::statements::{
+    is_reserved_name, line_of_do, may_end_after, said_at, said_of_assignment, statement_of,
+};
 use words::{Kind, Mark, ReservedWord, Word};
 
 /// What is likely wrong.
@@ -210,6 +212,11 @@ fn hint_of_declaration<'a>(before: &Word, word: &Word, open: &[Opener<'a>]) -> O
     }
 }
 
+// That an assignment in an expression has no parentheses of its own.
+fn hint_of_assignment(before: &[Word], after: &[Word]) -> Option<Hint<'static>> {
+    Some(Hint::Said(said_of_assignment(before, after)?))
+}
+
 // What is likely wrong at a word that may stand elsewhere, by itself and the word before it.
 fn hint_of_pair(before: &Word, word: &Word) -> Option<Hint<'static>> {
     match (before.kind, word.kind) {
@@ -347,11 +354,24 @@ fn hint_of_line(before: &[Word], word: &Word, next: Option<&Word>) -> Option<Hin
     }
 }
 
-// What is likely wrong at the first word of a source.
-fn hint_of_first<'a>(word: &Word<'a>, next: Option<&Word<'a>>) -> Option<Hint<'a>> {
-    let is_before_colon = match next {
-        Some(next) => next.kind == Kind::Mark(Mark::Colon),
-        None => false,
+// Whether a module begins on the line of the first of words, after it.
+fn begins_after(words: &[Word]) -> bool {
+    match words {
+        [first, name, colon, opener, ..] => {
+            name.line == first.line
+                && name.kind == Kind::Name
+                && colon.kind == Kind::Mark(Mark::Colon)
+                && opener.kind == Kind::Reserved(ReservedWord::Do)
+        }
+        _ => false,
+    }
+}
+
+// What is likely wrong at the first word of a source, the first one of `words`.
+fn hint_of_first<'a>(word: &Word<'a>, words: &[Word<'a>]) -> Option<Hint<'a>> {
+    let is_before_colon = match words {
+        [_, next, ..] => next.kind == Kind::Mark(Mark::Colon),
+        _ => false,
     };
     match word.kind {
         Kind::Name => None,
@@ -359,6 +379,7 @@ fn hint_of_first<'a>(word: &Word<'a>, next: Option<&Word<'a>>) -> Option<Hint<'a
             "The address of the code is no part of a module: delete it, and use --code",
         )),
         Kind::Reserved(_) if is_before_colon => Some(Hint::Reserved(word.text)),
+        Kind::Number(_) if begins_after(words) => None,
         _ => Some(NO_MODULE),
     }
 }
@@ -472,7 +493,7 @@ pub(crate) fn hint_at<'a>(
     let next = after.get(1);
     let strange = hint_of_strange(before);
     match before {
-        [] => hint_of_first(word, next),
+        [] => hint_of_first(word, after),
         [_] | [_, _] => Some(NO_MODULE),
         [_, _, _, _, ..] if open.is_empty() => {
             Some(Hint::Said(cure_of(word.text).unwrap_or(
@@ -494,6 +515,7 @@ pub(crate) fn hint_at<'a>(
                 .or(hint_of_else(before, word, open))
                 .or(hint_of_end(last, word, open))
                 .or(hint_of_declaration(last, word, open))
+                .or(hint_of_assignment(before, after))
                 .or(hint_of_pair(last, word))
                 .or(hint_of_statement(before, word));
             let hint = if is_declared(before, word.text) {

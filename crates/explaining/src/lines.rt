@@ -67,6 +67,11 @@ pub(crate) fn has_lone_quote(line: &[u8]) -> bool {
     is_lone
 }
 
+/// Whether the beginning of a line has blanks alone.
+pub(crate) fn is_blank(beginning: &[u8]) -> bool {
+    beginning.iter().all(u8::is_ascii_whitespace)
+}
+
 /// Whether the beginning of a line is a number: of digits and blanks alone, and not of blanks alone.
 pub(crate) fn is_number(beginning: &[u8]) -> bool {
     let mut has_digit = false;

@@ -62,6 +62,21 @@ pub(crate) fn add_objects(page: &mut Page, seen: &Seen, name: &[u8]) {
     }
 }
 
+/// Adds the object files that have a start.
+pub(crate) fn add_starts(page: &mut Page, seen: &Seen) {
+    for file in seen.files {
+        if let Content::Bytes(bytes) = &file.content
+            && let Ok(object) = read(seen.alloc, bytes.as_slice())
+            && object.start().is_some()
+        {
+            page.line(&[
+                Piece::Shown(file.name.as_slice()),
+                Piece::Text(" has a start"),
+            ]);
+        }
+    }
+}
+
 // Adds the external names of an object.
 fn add_externals_of(page: &mut Page, file: &[u8], object: &ObjectModule) {
     for name in object.externals() {

@@ -36,13 +36,18 @@ fn option_with<'a>(words: &[&'a str], value: &str) -> &'a str {
     ""
 }
 
+/// The name of the command among words, which comes after the program's name, or no text.
+pub(crate) fn command_word<'a>(words: &[&'a str]) -> &'a str {
+    match words {
+        [_, command, ..] => *command,
+        _ => "",
+    }
+}
+
 /// Adds what the option with the value `value` takes, or what the command takes.
 pub(crate) fn explain_value(page: &mut Page, words: &[&str], value: &str) {
     let option = option_with(words, value);
-    let command = match words {
-        [_, command, ..] => *command,
-        _ => "",
-    };
+    let command = command_word(words);
     let (subject, taken) = match said_of(VALUES, option.as_bytes()) {
         Some(values) => (option, values),
         None if command == "explain" => ("No fault", "has this number"),

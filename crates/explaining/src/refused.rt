@@ -2,17 +2,24 @@
 
 use crate::converted::text_of_words;
 use crate::explanation::Seen;
+use crate::high_bytes::{Within, add_wrong_byte};
 use crate::hints::{Hint, hint_at, is_around};
 use crate::kinds::as_source;
 use crate::left_out::{cure_of, is_number_without_digit};
-use crate::lines::{has_lone_quote, is_number, line_before, numbered_line, show_line, show_place};
+use crate::lines::{
+    has_lone_quote, is_blank, is_number, line_before, numbered_line, show_line, show_place,
+};
 use crate::listing::is_listing;
 use crate::named::{find_named, leaves_procedure};
 use crate::naming::{Named, awaited_after, find_defined, find_in_block, find_object};
+use crate::number_spelling::{explain_after_dollar, explain_name_as_number, explain_number};
+use crate::numbering::{cure_after, cure_before, is_after_source};
 use crate::openers::{Opened, Opener, openers};
+use crate::options::command_word;
 use crate::origins::add_origins;
 use crate::page::{MARGIN, Page, Piece};
 use crate::spelling::{ends_string_in_word, is_after_nested, refused_byte};
+use crate::statements::awaits_value;
 use crate::told::Told;
 use host::Failure;
 use sources::{LONGEST_SOURCE, Place, ReadFault, read_source};
@@ -151,6 +158,16 @@ impl<'a> Refused<'_, 'a, '_, '_> {
                 _ => Some(Dot::Location),
             },
             _ => None,
+        }
+    }
+
+    // Whether the word at fault stands where a number may stand: after what a value comes after, and before no list.
+    fn is_value(&self) -> bool {
+        match (self.before, self.after) {
+            ([.., last], [_, next, ..]) => {
+                awaits_value(last.kind) && next.kind != Kind::Mark(Mark::LeftParenthesis)
+            }
+            _ => false,
         }
     }
 
@@ -353,6 +370,8 @@ fn explain_unknown(page: &mut Page, refused: &Refused, name: &[u8]) {
         show_line(page, refused.text, line);
     } else if refused.dot() == Some(Dot::Location) {
         explain_location(page, refused, name);
+    } else if refused.is_value() {
+        explain_name_as_number(page, refused.seen.alloc, name);
     }
 }
 
@@ -423,8 +442,6 @@ fn hint_of_dollar(line: &[u8], before: &[u8]) -> &'static str {
         "Control lines are left out: plm convert takes them out, and puts in the file of $INCLUDE; of a listing, add --listing"
     } else if has_lone_quote(line) {
         "A quote may be missing before it on this line"
-    } else if is_number(before) {
-        "Numbers before the lines: take them away, as by cut -c8-"
     } else {
         "A control line begins with its $: put it at the beginning of a line, where plm convert takes it out"
     }
@@ -458,35 +475,48 @@ fn explain_spelling(page: &mut Page, refused: &Refused) {
     } else if refused.told.number == "C1"
         && let Some(place) = refused.place
     {
-        explain_byte(page, refused.text, place);
+        explain_byte(page, refused, place);
+    } else if refused.told.number == "C3"
+        && let Some(place) = refused.place
+    {
+        let rest = refused.text.get(place.start as usize..).unwrap_or(&[]);
+        explain_number(page, refused.seen.alloc, rest);
     }
 }
 
 // Adds what is said of the byte at a place, which begins no word.
-fn explain_byte(page: &mut Page, text: &[u8], place: Place) {
-    let start = place.start as usize;
+fn explain_byte(page: &mut Page, refused: &Refused, place: Place) {
+    let (text, start) = (refused.text, place.start as usize);
     let line = numbered_line(text, place.line);
-    if let Some(byte) = text.get(start)
-        && let Some(hint) = hint_of_byte(*byte, line, line_before(text, start))
-    {
-        page.sentence(&[Piece::Text(hint)]);
-        add_refused_byte(page, text, place);
+    let before = line_before(text, start);
+    match text.get(start..).unwrap_or(&[]) {
+        [b'$', digits @ ..]
+            if !is_blank(before)
+                && !has_lone_quote(line)
+                && explain_after_dollar(page, refused.seen.alloc, digits) => {}
+        [byte, ..] if !byte.is_ascii() => {
+            add_wrong_byte(page, text, start, place.line, Within::Source);
+        }
+        [byte, ..] => {
+            if let Some(hint) = hint_of_byte(*byte, line, before) {
+                page.sentence(&[Piece::Text(hint)]);
+                add_refused_byte(page, text, place);
+            }
+        }
+        [] => {}
     }
 }
 
 // Adds which byte of a comment or of a string may not stand in it.
 fn add_refused_byte(page: &mut Page, text: &[u8], place: Place) {
     let start = place.start as usize;
-    if let Some(b'/' | b'\'') = text.get(start)
-        && let Some((byte, line)) = refused_byte(text, start, place.line)
-    {
-        page.sentence(&[
-            Piece::Text("The byte "),
-            Piece::Shown(&[byte]),
-            Piece::Text(" in line "),
-            Piece::Number(line),
-            Piece::Text(" is none of these"),
-        ]);
+    let within = match text.get(start) {
+        Some(b'/') => Within::Comment,
+        Some(b'\'') => Within::Text,
+        _ => return,
+    };
+    if let Some((at, line)) = refused_byte(text, start, place.line) {
+        add_wrong_byte(page, text, at, line, within);
     }
 }
 
@@ -506,11 +536,47 @@ fn explain_expansion(page: &mut Page, refused: &Refused, fault: &literally::Faul
     }
 }
 
+// Whether the word at fault, or the one before it, is after the columns that a card has for source.
+fn is_on_card(refused: &Refused, start: usize) -> bool {
+    let is_last = match refused.before {
+        [.., last] => is_after_source(refused.text, last.start as usize),
+        [] => false,
+    };
+    is_last || is_after_source(refused.text, start)
+}
+
+// What to do about numbers before the lines of a text or after them, where they are what is at fault.
+fn hint_of_numbers(refused: &Refused) -> Option<&'static str> {
+    let start = refused.place?.start as usize;
+    let before = line_before(refused.text, start);
+    let is_before = match refused.text.get(start) {
+        Some(b'0'..=b'9') => is_blank(before),
+        Some(b'$') => is_number(before),
+        _ => false,
+    };
+    let cure = if is_before {
+        cure_before(refused.text)
+    } else {
+        None
+    };
+    if cure.is_none() && is_on_card(refused, start) {
+        cure_after(refused.text)
+    } else {
+        cure
+    }
+}
+
 // Adds why a text is refused.
 fn explain_fault(page: &mut Page, refused: &Refused, fault: &ReadFault) {
-    if refused.before.len() <= 2 && is_listing(refused.text) {
+    let is_listed = refused.before.len() <= 2 && is_listing(refused.text);
+    let hint = if is_listed {
+        Some("This is a listing: use plm convert --listing")
+    } else {
+        hint_of_numbers(refused)
+    };
+    if let Some(hint) = hint {
         refused.show(page, refused.told.meaning);
-        page.sentence(&[Piece::Text("This is a listing: use plm convert --listing")]);
+        page.sentence(&[Piece::Text(hint)]);
         return;
     }
     match fault {
@@ -552,7 +618,7 @@ fn explain_at(page: &mut Page, seen: &Seen, told: Told, text: &[u8], fault: &Rea
 /// Adds why a source is refused, as the line of its fault and another look at it tell, with what is said below that line of
 /// the places from which it comes.
 pub(crate) fn explain_source(page: &mut Page, seen: &Seen, told: Told, text: &[u8]) {
-    if let Some(other) = as_source(text) {
+    if let Some(other) = as_source(text, command_word(seen.words)) {
         add_origins(page, seen, told, text);
         page.cause(other, told.number);
         return;

@@ -50,18 +50,18 @@ pub(crate) fn is_after_nested(text: &[u8], place: usize) -> bool {
     false
 }
 
-/// The first byte of the comment, or of the string, at a place that may not stand in it, and the number of its line. The place is on a
-/// line of this number. None where a string has a tab or does not end on its line.
-pub(crate) fn refused_byte(text: &[u8], place: usize, line: u32) -> Option<(u8, u32)> {
+/// Where the first byte of the comment, or of the string, at a place is that may not stand in it, and the number of its line. The
+/// place is on a line of this number. None where a string has a tab or does not end on its line.
+pub(crate) fn refused_byte(text: &[u8], place: usize, line: u32) -> Option<(usize, u32)> {
     let rest = text.get(place..).unwrap_or(&[]);
     let is_string = matches!(rest, [b'\'', ..]);
     let mut number = line;
-    for byte in rest {
+    for (at, byte) in rest.iter().enumerate() {
         match *byte {
             b'\n' | b'\t' if is_string => return None,
             b'\n' => number = number.saturating_add(1),
             b'\t' | b'\r' | b' '..=b'~' => {}
-            other => return Some((other, number)),
+            _ => return Some((place.saturating_add(at), number)),
         }
     }
     None

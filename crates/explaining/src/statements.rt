@@ -81,6 +81,16 @@ fn wants_value(kind: Kind) -> bool {
     }
 }
 
+/// Whether a word comes before a value: of an expression, of a list, or of RETURN.
+pub(crate) fn awaits_value(kind: Kind) -> bool {
+    match kind {
+        Kind::Reserved(ReservedWord::Return) | Kind::Mark(Mark::LeftParenthesis | Mark::Comma) => {
+            true
+        }
+        _ => wants_value(kind),
+    }
+}
+
 // Whether a word comes after a whole value alone.
 fn ends_value(kind: Kind) -> bool {
     match kind {
@@ -179,6 +189,55 @@ fn depth_of(words: &[Word]) -> u32 {
     depth
 }
 
+// The last list in parentheses that is open after words: how many words stand before its parenthesis, and its last item.
+#[derive(Clone, Copy)]
+struct OpenList<'w, 'a> {
+    at: usize,
+    item: &'w [Word<'a>],
+}
+
+// The last list in parentheses that is open after words.
+fn open_list<'w, 'a>(words: &'w [Word<'a>]) -> OpenList<'w, 'a> {
+    let innermost = depth_of(words);
+    let mut depth = 0_u32;
+    let mut at = 0;
+    let mut start = 0;
+    for (number, word) in words.iter().enumerate() {
+        match word.kind {
+            Kind::Mark(Mark::LeftParenthesis) => {
+                depth = depth.saturating_add(1);
+                if depth == innermost {
+                    at = number;
+                    start = number.saturating_add(1);
+                }
+            }
+            Kind::Mark(Mark::RightParenthesis) => depth = depth.saturating_sub(1),
+            Kind::Mark(Mark::Comma) if depth == innermost => start = number.saturating_add(1),
+            _ => {}
+        }
+    }
+    let (_, item) = words.split_at(start.min(words.len()));
+    OpenList { at, item }
+}
+
+// Whether an item of a list is a variable: a name, with members and lists after it.
+fn is_variable(item: &[Word]) -> bool {
+    let mut depth = 0_u32;
+    for word in item {
+        match word.kind {
+            Kind::Mark(Mark::LeftParenthesis) => depth = depth.saturating_add(1),
+            Kind::Mark(Mark::RightParenthesis) => depth = depth.saturating_sub(1),
+            Kind::Name | Kind::Mark(Mark::Period) => {}
+            _ if depth == 0 => return false,
+            _ => {}
+        }
+    }
+    match item {
+        [first, ..] => first.kind == Kind::Name,
+        [] => false,
+    }
+}
+
 // The words of the last item of a DECLARE: those after its last comma outside parentheses, or after DECLARE.
 fn item_of<'w, 'a>(declare: &'w [Word<'a>]) -> &'w [Word<'a>] {
     let mut depth = 0_u32;
@@ -215,6 +274,18 @@ fn is_typed(item: &[Word]) -> bool {
                 | ReservedWord::Literally
                 | ReservedWord::Structure,
             ) => return true,
+            _ => {}
+        }
+    }
+    false
+}
+
+// Whether TO comes in words before the first semicolon.
+fn has_to(words: &[Word]) -> bool {
+    for word in words {
+        match word.kind {
+            Kind::Reserved(ReservedWord::To) => return true,
+            Kind::Mark(Mark::Semicolon) => return false,
             _ => {}
         }
     }
@@ -377,6 +448,65 @@ impl Spot<'_, '_> {
         }
     }
 
+    // What is wrong with an assignment in an expression: that it is an item of a list after a name, which has its own parentheses.
+    fn of_assignment(&self) -> Option<&'static str> {
+        let list = open_list(self.statement);
+        let is_after_name = match self.statement.get(list.at.saturating_sub(1)) {
+            Some(before) => list.at > 0 && before.kind == Kind::Name,
+            None => false,
+        };
+        let is_code = !self.begins(ReservedWord::Declare) && !self.begins(ReservedWord::Procedure);
+        if self.is_mark(Mark::AssignSign)
+            && self.depth > 0
+            && is_code
+            && is_after_name
+            && is_variable(list.item)
+        {
+            Some(
+                "An assignment in an argument or in a subscript has parentheses of its own: V((I := 1)), as plm convert writes it",
+            )
+        } else {
+            None
+        }
+    }
+
+    // What is wrong with a number that has a fraction.
+    fn of_fraction(&self) -> Option<&'static str> {
+        match (self.last.kind, self.after) {
+            (Kind::Number(_), [point, digits, ..])
+                if point.kind == Kind::Mark(Mark::Period)
+                    && matches!(digits.kind, Kind::Number(_))
+                    && is_joined(point, digits) => {
+                Some("A number is whole, and has no point and no fraction")
+            }
+            _ => None,
+        }
+    }
+
+    // What is wrong with a colon before an equal sign.
+    fn of_equal_sign(&self) -> Option<&'static str> {
+        if self.is_mark(Mark::EqualSign) && self.last.kind == Kind::Mark(Mark::Colon) {
+            Some("An assignment has = alone; the mark := of an expression has no blank in it")
+        } else {
+            None
+        }
+    }
+
+    // What is wrong with a colon at the end of a statement.
+    fn of_colon(&self) -> Option<&'static str> {
+        let is_whole = self.depth == 0 && is_value(self.last.kind);
+        let is_assignment = self.begins_with_name()
+            && has_kind(self.statement, Kind::Mark(Mark::EqualSign));
+        if self.is_mark(Mark::Colon)
+            && is_whole
+            && (is_assignment || self.begins(ReservedWord::Call))
+        {
+            Some("A colon comes after a label alone, and a semicolon ends a statement")
+        } else {
+            None
+        }
+    }
+
     // What is wrong with parentheses.
     fn of_parentheses(&self) -> Option<&'static str> {
         match self.word.kind {
@@ -509,12 +639,27 @@ impl Spot<'_, '_> {
         }
     }
 
+    // Whether the statement is a DO and the name of its variable.
+    fn is_loop_variable(&self) -> bool {
+        self.statement.len() == 2 && self.last.kind == Kind::Name
+    }
+
     // What is wrong in the head of a DO.
     fn of_do(&self) -> Option<&'static str> {
         match self.word.kind {
             _ if !self.begins(ReservedWord::Do) => None,
             Kind::Name if self.word.text.eq_ignore_ascii_case(b"STEP") => {
                 Some("BY stands before the step: DO I = 1 TO 10 BY 2")
+            }
+            Kind::Name
+                if is_value(self.last.kind) && self.word.text.eq_ignore_ascii_case(b"DOWNTO") => {
+                Some(
+                    "A DO counts up: in place of DOWNTO write a DO WHILE whose last statement counts down",
+                )
+            }
+            Kind::Mark(Mark::LeftParenthesis | Mark::Period)
+                if self.is_loop_variable() && has_to(self.after) => {
+                Some("The variable of a DO is a name alone, with no subscript and no member")
             }
             Kind::Reserved(ReservedWord::Do) if is_value(self.last.kind) => {
                 Some("The head of a DO ends with a semicolon, and has no second DO")
@@ -581,20 +726,33 @@ impl Spot<'_, '_> {
     }
 }
 
-/// What is likely wrong at the first of the words `after`, which comes after `before`.
-pub(crate) fn said_at(before: &[Word], after: &[Word]) -> Option<&'static str> {
+// A word that cannot stand where it stands: the first of the words `after`, which comes after `before`.
+fn spot_at<'w, 'a>(before: &'w [Word<'a>], after: &'w [Word<'a>]) -> Option<Spot<'w, 'a>> {
     let ([.., last], [word, ..]) = (before, after) else {
         return None;
     };
     let statement = statement_of(before);
-    let spot = Spot {
+    Some(Spot {
         statement,
         last: *last,
         word: *word,
         after,
         depth: depth_of(statement),
-    };
+    })
+}
+
+/// What is likely wrong at an assignment in an expression, where the first of the words `after` is its mark.
+pub(crate) fn said_of_assignment(before: &[Word], after: &[Word]) -> Option<&'static str> {
+    spot_at(before, after)?.of_assignment()
+}
+
+/// What is likely wrong at the first of the words `after`, which comes after `before`.
+pub(crate) fn said_at(before: &[Word], after: &[Word]) -> Option<&'static str> {
+    let spot = spot_at(before, after)?;
     spot.of_marks()
+        .or(spot.of_fraction())
+        .or(spot.of_equal_sign())
+        .or(spot.of_colon())
         .or(spot.of_parentheses())
         .or(spot.of_commas())
         .or(spot.of_declare())
