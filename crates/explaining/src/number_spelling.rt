@@ -3,7 +3,7 @@
 use crate::page::{Page, Piece};
 use host::Failure;
 use std::alloc::{AllocError, Global};
-use words::Kind;
+use words::{Kind, LONGEST_SOURCE};
 
 // What is said before a number as it is likely meant.
 const NO_X: &str = "A hexadecimal number has no 0x, and ends with H: ";
@@ -82,6 +82,9 @@ fn with_digits(alloc: Global, word: &[u8]) -> Result<Vec<u8>, AllocError> {
 
 // What a text is, if it is one word.
 fn kind_of(page: &mut Page, alloc: Global, text: &[u8]) -> Option<Kind> {
+    if text.len() > LONGEST_SOURCE {
+        return None;
+    }
     match words::scan(alloc, text) {
         Ok(words) => match words.as_slice() {
             [word] => Some(word.kind),
