@@ -30,14 +30,14 @@ is_side_end (classes.Mark EqualSign) = true
 is_side_end (classes.Reserved Then) = true
 is_side_end class = false
 
--- how many words the member at the front has, with its dot and its group, if it has one; 0 if there is none
+-- how many words the member at the front has, with its dot and its group, if it has one; 0 without one
 abbrev pub member_length : List Seen → ℕ
 member_length [] = 0
 member_length (dot ∷ []) = 0
 member_length (dot ∷ name ∷ words) =
     if is_period dot.class && is_name name.class then 2 + group_length words else 0
 
--- how many words the reference at the front has: a name, with its group and with a member, if it has these; 0 if there is none
+-- how many words the reference at the front has: a name, with its group and with a member, if it has these; 0 without one
 abbrev pub reference_length : List Seen → ℕ
 reference_length [] = 0
 reference_length (name ∷ words) =

@@ -38,15 +38,15 @@ pub fn plain(alloc: Global, source: &[u8]) -> Result<Vec<u8>, AllocError>
     Ok(text)
 }
 
-// Adds a byte after another, apart if both would be of one word and a form feed stood between them.
-fn add_byte(last: u8, fed: bool, byte: u8, text: &mut Vec<u8>) -> Result<(), AllocError>
-    ensures added { IfOk result (λ _. text.new.items ≡ text.old.items ++ (fed_gap fed last byte ++ byte ∷ [])) }
+// Adds a byte `c` after another, apart if both would be of one word and a form feed stood between them.
+fn add_byte(last: u8, fed: bool, c: u8, text: &mut Vec<u8>) -> Result<(), AllocError>
+    ensures added { IfOk result (λ _. text.new.items ≡ text.old.items ++ (fed_gap fed last c ++ c ∷ [])) }
     ensures few { IfOk result (λ _. length text.new.items ≤ length text.old.items + (1 + waiting fed)) }
 {
-    if fed && is_word_byte(last) && is_word_byte(byte) {
+    if fed && is_word_byte(last) && is_word_byte(c) {
         text.push(b' ')?;
     }
-    text.push(byte)?;
+    text.push(c)?;
     Ok(())
 }
 

@@ -29,7 +29,7 @@ pub(crate) fn clash_length(words: &[Seen]) -> usize
     }
 }
 
-// How many words the reference at the front has; 0 if there is none.
+// How many words the reference at the front has; 0 without one.
 fn reference_length(words: &[Seen]) -> usize
     requires { length words.now ≤ 4294967296 }
     ensures length { result ≡ reference_length words.now }
@@ -44,7 +44,7 @@ fn reference_length(words: &[Seen]) -> usize
     }
 }
 
-// How many words the member at the front has, with its dot; 0 if there is none.
+// How many words the member at the front has, with its dot; 0 without one.
 fn member_length(words: &[Seen]) -> usize
     requires { length words.now ≤ 4294967296 }
     ensures length { result ≡ member_length words.now }
