@@ -4,7 +4,7 @@ use Rattle.typed_trees.specs.TypedTrees.{TypedList, TypedStatement, TypedStateme
 use Rattle.typed_trees.specs.Jumps.{labels_in, labels_in_list, labels_in_statements}
 use Rattle.layout.specs.Storage.{Storage}
 use Rattle.asm8080.specs.Items.{BoundOnce, is_bound}
-use Rattle.treecode.specs.internal.Lowered.{AreMoreStatements, AreNoStatements, AreStatements, IsList, IsListOf, IsStatement, IsStatementNode, IsStatementForm}
+use Rattle.treecode.specs.internal.Lowered.{AreMoreStatements, AreNoStatements, AreStatements, IsAssignment, IsCall, IsCase, IsDo, IsGoto, IsHalt, IsIf, IsLabel, IsList, IsListOf, IsLoop, IsMove, IsNull, IsReturn, IsStatement, IsStatementNode, IsStatementForm}
 use Rattle.treecode.specs.internal.Nodes.{Nodes, nodes_of}
 use Rattle.treecode.specs.internal.Rising.{NumbersRise}
 use Rattle.treecode.specs.declared.place.Location.{Location}
@@ -25,7 +25,39 @@ use Rattle.exprgen8080.specs.internal.Marks.{Differ, IsIn, marks_of}
 use Rattle.codegen8080.specs.internal.Generated.{byte_at_address_steps, byte_at_steps, byte_in_a, jump_on_steps, word_at_steps, word_in_hl}
 unfoldable use Rattle.codegen8080.specs.internal.Generated.{load_byte_steps, load_word_steps}
 use Rattle.codegen8080.specs.internal.Outlines.{is_outlined, marks_of_plan, marks_of_step, outline}
-use Rattle.codegen8080.proofs.{DifferentNumbers.{differ_apart, differ_first, differ_later, in_first, in_later}, FormLabels.{FormLabels, FormPlan, IsSourceLabel, ListFirst, NoPartFirst, NoParts, PartsAre, StatementFirst, TakesLabels, form_labels}, Outlines.{Shows}}
+use Rattle.codegen8080.proofs.{DifferentNumbers.{differ_apart, differ_first, differ_later, in_first, in_later}, FormLabels.{FormLabels, FormPlan, IsSourceLabel, ListFirst, NoPartFirst, NoParts, PartsAre, StatementFirst, TakesLabels, bare_plan, case_plan, do_plan, if_plan}, Heads.{loop_plan}, Outlines.{Shows, assignment_is_bare, bare, move_is_bare, return_of_is_bare}}
+
+-- the labels and the parts of the steps of a statement of each form
+module _ {storage : Storage} {labels : List ℕ} {bound : ℕ} (body : Body) (site : Site) (first : ℕ) where
+  list_plan : {tree : TypedList} (range : Range)
+      → IsList (nodes_of body.tree.now) storage labels bound range tree
+      → FormPlan (nodes_of body.tree.now) storage labels bound (planned.List range ∷ []) first 0 (labels_in_list tree)
+  list_plan range (IsListOf {trees = trees} are) = do_plan range trees are refl
+
+  form_labels :
+      {statement : Statement} {tree : TypedStatement}
+      → IsStatementForm (nodes_of body.tree.now) storage labels bound statement tree
+      → first + statement_labels body site statement < 4294967295
+      → FormLabels body storage labels bound (statement_steps body site statement first) first
+      (statement_labels body site statement) (labels_in tree)
+  unfolding statement_steps statement_labels
+  form_labels (IsLabel {number = place} {label = label} is) few = IsSourceLabel place label refl is refl
+  form_labels IsNull few = TakesLabels (bare_plan (bare refl))
+  form_labels (IsAssignment {range = targets} {value = value} are is) few =
+      TakesLabels (bare_plan (assignment_is_bare body site targets value))
+  form_labels (IsCall are) few = TakesLabels (bare_plan (bare refl))
+  form_labels (IsMove {count = count} {source = from} {destination = to} one other another) few =
+      TakesLabels (bare_plan (move_is_bare site count from to))
+  form_labels (IsReturn {value = value} is) few = TakesLabels (bare_plan (return_of_is_bare body value))
+  form_labels IsHalt few = TakesLabels (bare_plan (bare refl))
+  form_labels (IsGoto is) few = TakesLabels (bare_plan (bare refl))
+  form_labels (IsIf {condition = condition} {body = then_part} {then_tree = then_tree} is then_is else_is) few =
+      TakesLabels (if_plan then_part then_tree then_is body site condition refl else_is few)
+  form_labels (IsDo {range = range} is) few = TakesLabels (list_plan range is)
+  form_labels (IsLoop {head = head} {range = range} is list_is) few =
+      TakesLabels (loop_plan body site first head range list_is few)
+  form_labels (IsCase {choice = choice} {range = range} {trees = trees} is are) few =
+      TakesLabels (case_plan storage labels bound body range first trees are site choice few)
 
 -- the labels that a planned step marks are those of its expression steps
 byte_unmarked :

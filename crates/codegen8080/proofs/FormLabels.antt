@@ -5,13 +5,13 @@ use Rattle.std.specs.Prelude.{◌%◌, ◌||◌, is_some, nat_eq, nat_le}
 use Rattle.std.proofs.lemmas.Bool.{ltb-true}
 use Rattle.trees.specs.declared.declaration.ScalarType.{ScalarType}
 use Rattle.trees.specs.declared.declaration.ScalarType.TheVariants.{Byte, Address}
-use Rattle.typed_trees.specs.TypedTrees.{MoreStatements, TypedElse, TypedList, TypedStatement, TypedStatements}
-use Rattle.typed_trees.specs.Jumps.{labels_in, labels_in_else, labels_in_list, labels_in_statements}
+use Rattle.typed_trees.specs.TypedTrees.{MoreStatements, TypedElse, TypedStatement, TypedStatements}
+use Rattle.typed_trees.specs.Jumps.{labels_in, labels_in_else, labels_in_statements}
 use Rattle.layout.specs.Storage.{Storage}
 use Rattle.treecode.specs.declared.expression.ExpressionNumber.{ExpressionNumber}
 use Rattle.treecode.specs.declared.reference.Target.TheVariants.{Stored}
 use Rattle.treecode.specs.declared.statement.Iteration.{Iteration}
-use Rattle.treecode.specs.internal.Lowered.{AreMoreStatements, AreNoStatements, AreStatements, IsAssignment, IsCall, IsCase, IsDo, IsElse, IsGoto, IsHalt, IsIf, IsCountHead, IsLabel, IsList, IsListOf, IsLoop, IsMove, IsNoElse, IsNull, IsReturn, IsSomeElse, IsStatement, IsStatementForm, IsWhileHead}
+use Rattle.treecode.specs.internal.Lowered.{AreMoreStatements, AreNoStatements, AreStatements, IsElse, IsNoElse, IsSomeElse, IsStatement}
 use Rattle.treecode.specs.internal.Nodes.{Nodes, nodes_of}
 use Rattle.treecode.specs.internal.Queries.{item}
 unfoldable use Rattle.steps8080.specs.internal.Queries.{number}
@@ -23,17 +23,16 @@ use Rattle.statements8080.specs.declared.iteration.Counter.{Counter}
 use Rattle.statements8080.specs.internal.Bodies.{body_label}
 use Rattle.statements8080.specs.internal.Counters.{counter_of, counts_by_one, has_a_turn}
 use Rattle.statements8080.specs.internal.Plans.{label_at, mark, nth_label, steps_from}
-use Rattle.statements8080.specs.internal.Branches.{computed_if_labels, computed_if_steps, either_labels, either_steps, goto_label, if_labels, if_steps, statement_if_any, tested_if_labels, tested_if_steps, while_labels, while_steps}
+use Rattle.statements8080.specs.internal.Branches.{computed_if_labels, computed_if_steps, either_labels, either_steps, goto_label, if_labels, if_steps, statement_if_any, tested_if_labels, tested_if_steps}
 use Rattle.statements8080.specs.internal.Cases.{case_labels, case_steps, choice_labels, entry_of, statement_at}
 unfoldable use Rattle.statements8080.specs.internal.Cases.{cases_end_steps, choice_at_steps, into_table_steps, number_in_de_steps, statements_steps, table_at, table_steps}
 use Rattle.statements8080.specs.internal.Iterations.{counts_in_place, is_byte_type, iteration_labels, iteration_steps, labels_if_any, loop_labels, turns_if_any, turns_labels, turns_steps}
 unfoldable use Rattle.statements8080.specs.internal.Iterations.{facts_of_turn, first_steps, general_begin_steps, general_end_steps, general_steps, test_label_steps, to_known_steps}
 unfoldable use Rattle.statements8080.specs.internal.Tests.{test_of}
 use Rattle.statements8080.specs.internal.Tests.{facts_of_test}
-unfoldable use Rattle.codegen8080.specs.internal.Statements.{statement_labels, statement_steps}
 use Rattle.exprgen8080.specs.internal.Marks.{Differ, IsIn}
 use Rattle.codegen8080.specs.internal.Outlines.{is_outlined, marks_of_plan, marks_of_step}
-use Rattle.codegen8080.proofs.{DifferentNumbers.{Rising, differ_alone, differ_apart, differ_both, differ_first, differ_later, in_alone, in_either, in_first, in_later, rising_differ, rising_in, rising_lower}, Outlines.{Bare, Shows, asked_test_is_bare, assignment_is_bare, bare, bare_both, bare_each, bare_either, bare_then, less_is_bare, move_is_bare, next_turn_is_bare, return_of_is_bare, shows_after, shows_both, shows_either, shows_put, single_is_bare, step_is_bare, test_is_bare}}
+use Rattle.codegen8080.proofs.{DifferentNumbers.{Rising, differ_alone, differ_apart, differ_both, differ_first, differ_later, in_alone, in_either, in_first, in_later, rising_differ, rising_in, rising_lower}, Outlines.{Bare, Shows, asked_test_is_bare, bare, bare_both, bare_each, bare_either, bare_then, less_is_bare, next_turn_is_bare, shows_after, shows_both, shows_either, shows_put, single_is_bare, step_is_bare, test_is_bare}}
 
 -- the statements and lists that planned steps hold are of trees with these labels, in their order
 pub data PartsAre (nodes : Nodes) (storage : Storage) (labels : List ℕ) (bound : ℕ) :
@@ -156,7 +155,7 @@ module _ {nodes : Nodes} {storage : Storage} {labels : List ℕ} {bound : ℕ} {
   same_plan true one other = one
   same_plan false one other = other
 
-  finding_plan :
+  pub finding_plan :
       {A : Type 0} {some : A → List Planned} {labels_at : A → ℕ} {none : List Planned} {count : ℕ}
       (found : Option A)
       → ((x : A) → found ≡ Some x → first + labels_at x < 4294967295 → PlanOf nodes storage labels bound first numbers (some x) (labels_at x))
@@ -233,7 +232,7 @@ module _ {nodes : Nodes} {storage : Storage} {labels : List ℕ} {bound : ℕ} {
           (λ less. both_plan else_part same is (record { is = refl }) less)
           few
 
-      if_plan :
+      pub if_plan :
           {part : Option StatementNumber} {tree : TypedElse} (body : Body) (site : Site) (condition : ExpressionNumber)
           → numbers ≡ labels_in then_tree ++ labels_in_else tree
           → IsElse nodes storage labels bound part tree
@@ -255,7 +254,7 @@ module _ {nodes : Nodes} {storage : Storage} {labels : List ℕ} {bound : ℕ} {
       (are : AreStatements nodes storage labels bound list.first list.count trees)
       (same : numbers ≡ labels_in_statements trees)
     where
-      holding :
+      pub holding :
           {plan shown : List Planned} {count : ℕ}
           → Shows plan shown
           → Rising first (marks_of_plan shown) (first + count)
@@ -266,25 +265,8 @@ module _ {nodes : Nodes} {storage : Storage} {labels : List ℕ} {bound : ℕ} {
           (λ one is. subst (IsIn one) (sym same) (in_alone one (labels_in_statements trees) is))
           (λ differ. differ_alone (labels_in_statements trees) (subst Differ same differ))
 
-      do_plan : {count : ℕ} → PlanOf nodes storage labels bound first numbers (planned.List list ∷ []) count
+      pub do_plan : {count : ℕ} → PlanOf nodes storage labels bound first numbers (planned.List list ∷ []) count
       do_plan = holding (record { is = refl }) (omega arith) (ListFirst are NoParts)
-
-      while_plan :
-          (site : Site) (condition : ExpressionNumber)
-          → first + while_labels site condition < 4294967295
-          → PlanOf nodes storage labels bound first numbers (while_steps site condition list first) (while_labels site condition)
-      while_plan site condition few =
-          finding_plan (number site condition)
-          (λ known there less. either_plan (nat_eq (known % 2) 1)
-          (λ also. holding (record { is = refl }) (omega arith, omega arith)
-          (NoPartFirst tt (ListFirst are NoParts)))
-          (λ also. bare_plan (bare refl))
-          less)
-          (λ less. holding
-          (bare_then (bare_either (nat_lt 0 list.count) (bare refl) (bare refl)) (record { is = refl }))
-          (omega arith, (omega (arith, less), omega (arith, less)))
-          (NoPartFirst tt (ListFirst are (NoPartFirst tt NoParts))))
-          few
 
       -- iterative DO
       to_known_plan :
@@ -358,7 +340,7 @@ module _ {nodes : Nodes} {storage : Storage} {labels : List ℕ} {bound : ℕ} {
       turns_if_any_plan (Some true) site counter head few = turns_plan site counter head false few
       turns_if_any_plan None site counter head few = turns_plan site counter head true few
 
-      iteration_plan :
+      pub iteration_plan :
           (body : Body) (site : Site) (head : Iteration)
           → first + iteration_labels site head < 4294967295
           → PlanOf nodes storage labels bound first numbers (iteration_steps body site head list first) (iteration_labels site head)
@@ -655,7 +637,7 @@ module _ (storage : Storage) (labels : List ℕ) (bound : ℕ) (body : Body) (ra
           row_at index range.first range.count entry are (ltb-true index range.count is) there
       row_of index entry false is there = absurd (none-some entry there)
 
-      case_plan :
+      pub case_plan :
           (site : Site) (choice : ExpressionNumber)
           → first + case_labels site choice range < 4294967295
           → FormPlan (nodes_of body.tree.now) storage labels bound (case_steps body site choice range first) first
@@ -689,52 +671,3 @@ pub data FormLabels (body : Body) (storage : Storage) (labels : List ℕ) (bound
       → slice_get labels place ≡ Some label
       → numbers ≡ label ∷ []
       → FormLabels body storage labels bound plan first count numbers
-
-module _ {storage : Storage} {labels : List ℕ} {bound : ℕ} (body : Body) (site : Site) (first : ℕ) where
-  list_plan : {tree : TypedList} (range : Range)
-      → IsList (nodes_of body.tree.now) storage labels bound range tree
-      → FormPlan (nodes_of body.tree.now) storage labels bound (planned.List range ∷ []) first 0 (labels_in_list tree)
-  list_plan range (IsListOf {trees = trees} are) = do_plan range trees are refl
-
-  while_list_plan : {tree : TypedList} (condition : ExpressionNumber) (range : Range)
-      → IsList (nodes_of body.tree.now) storage labels bound range tree
-      → first + while_labels site condition < 4294967295
-      → FormPlan (nodes_of body.tree.now) storage labels bound (while_steps site condition range first) first
-      (while_labels site condition) (labels_in_list tree)
-  while_list_plan condition range (IsListOf {trees = trees} are) few =
-      while_plan range trees are refl site condition few
-
-  iteration_list_plan : {tree : TypedList} (head : Iteration) (range : Range)
-      → IsList (nodes_of body.tree.now) storage labels bound range tree
-      → first + iteration_labels site head < 4294967295
-      → FormPlan (nodes_of body.tree.now) storage labels bound (iteration_steps body site head range first) first
-      (iteration_labels site head) (labels_in_list tree)
-  iteration_list_plan head range (IsListOf {trees = trees} are) few =
-      iteration_plan range trees are refl body site head few
-
-  pub form_labels :
-      {statement : Statement} {tree : TypedStatement}
-      → IsStatementForm (nodes_of body.tree.now) storage labels bound statement tree
-      → first + statement_labels body site statement < 4294967295
-      → FormLabels body storage labels bound (statement_steps body site statement first) first
-      (statement_labels body site statement) (labels_in tree)
-  unfolding statement_steps statement_labels
-  form_labels (IsLabel {number = place} {label = label} is) few = IsSourceLabel place label refl is refl
-  form_labels IsNull few = TakesLabels (bare_plan (bare refl))
-  form_labels (IsAssignment {range = targets} {value = value} are is) few =
-      TakesLabels (bare_plan (assignment_is_bare body site targets value))
-  form_labels (IsCall are) few = TakesLabels (bare_plan (bare refl))
-  form_labels (IsMove {count = count} {source = from} {destination = to} one other another) few =
-      TakesLabels (bare_plan (move_is_bare site count from to))
-  form_labels (IsReturn {value = value} is) few = TakesLabels (bare_plan (return_of_is_bare body value))
-  form_labels IsHalt few = TakesLabels (bare_plan (bare refl))
-  form_labels (IsGoto is) few = TakesLabels (bare_plan (bare refl))
-  form_labels (IsIf {condition = condition} {body = then_part} {then_tree = then_tree} is then_is else_is) few =
-      TakesLabels (if_plan then_part then_tree then_is body site condition refl else_is few)
-  form_labels (IsDo {range = range} is) few = TakesLabels (list_plan range is)
-  form_labels (IsLoop {range = range} (IsWhileHead {condition = condition} is) list_is) few =
-      TakesLabels (while_list_plan condition range list_is few)
-  form_labels (IsLoop {range = range} (IsCountHead {head = head} is) list_is) few =
-      TakesLabels (iteration_list_plan head range list_is few)
-  form_labels (IsCase {choice = choice} {range = range} {trees = trees} is are) few =
-      TakesLabels (case_plan storage labels bound body range first trees are site choice few)

@@ -5,12 +5,13 @@ pub mod NewNames
 pub mod Planning
 pub mod CodeLaws
 pub mod Standing
-pub mod PlansStand
 pub mod DifferentNumbers
 pub mod Outlines
 pub mod NamedPlans
 pub mod NamedItems
 pub mod FormLabels
+pub mod Heads
+pub mod PlansStand
 pub mod BoundLabels
 pub mod EntryLabels
 pub mod LoweredStand

@@ -1,5 +1,5 @@
 -- The EXTERNAL names that the code of a module refers to are those of the module.
-use Rattle.codegen8080.proofs.Prelude.{◌≡◌, ◌∙◌, ℕ, suc, ◌+◌, Hlt, Bool, true, false, if◌then◌else◌, List, [], ◌∷◌, ◌++◌, Option, Some, None, slice_get, refl, sym, ap, subst, arith, Item, Content, TreeModule, TreeProcedure, ProcedureKind, Range, StatementNumber, Site, Facts, LabelNumber, Body, Planned, Here, AreAllCarriedOut, AreCarriedOut, IsCarriedOut, IsListCarriedOut, ListCarriedOut, ListPlanned, MoreStatements, NoStatements, NoneCarriedOut, StatementCarriedOut, StatementPlanned, StepCarriedOut, carried_steps, site_of, knowing, IsOwnCode, IsProcedureCode, content_items, contents_items, has_main}
+use Rattle.codegen8080.proofs.Prelude.{◌≡◌, ◌∙◌, ℕ, suc, ◌+◌, Hlt, Bool, true, false, if◌then◌else◌, List, [], ◌∷◌, ◌++◌, Option, Some, None, slice_get, refl, sym, ap, subst, arith, Item, Content, TreeModule, TreeProcedure, ProcedureKind, Range, Statement, StatementNumber, Site, Facts, LabelNumber, Body, Planned, Here, AreAllCarriedOut, AreCarriedOut, IsCarriedOut, IsListCarriedOut, ListCarriedOut, ListPlanned, MoreStatements, NoStatements, NoneCarriedOut, StatementCarriedOut, StatementPlanned, StepCarriedOut, carried_steps, site_of, knowing, statement_steps, IsOwnCode, IsProcedureCode, content_items, contents_items, has_main}
 use Rattle.std.specs.List.{AllByRecursion}
 use Rattle.std.specs.Prelude.{IfSome}
 use Rattle.std.proofs.lemmas.Bool.{eqb-true}
@@ -12,6 +12,7 @@ use Rattle.asm8080.specs.declared.item.WordForm.TheVariants.{LoadA}
 use Rattle.treecode.specs.declared.place.Place.TheVariants as places
 use Rattle.treecode.specs.declared.procedure.ProcedureKind.TheVariants as kinds
 use Rattle.treecode.specs.declared.reference.Reference.{Reference}
+use Rattle.treecode.specs.declared.statement.Statement.TheVariants as statements
 use Rattle.treecode.specs.internal.Named.{ContentIsNamed, LocationIsNamed, NamesItsOwn, PlaceIsNamed, name_count}
 use Rattle.treecode.specs.internal.Nodes.{nodes_of}
 use Rattle.treecode.proofs.OwnNames.{names_its_own}
@@ -28,7 +29,25 @@ use Rattle.codegen8080.specs.internal.Generated.{byte_at_address_steps, byte_at_
 unfoldable use Rattle.codegen8080.specs.internal.Generated.{load_byte_steps, load_word_steps}
 use Rattle.codegen8080.specs.internal.Sources.{IsOfModule}
 use Rattle.codegen8080.specs.internal.Modules.{AreCodeOf, IsCodeOf, IsCodeOfMain, IsEndCode}
-use Rattle.codegen8080.proofs.NamedPlans.{ParametersAreOwn, StepIsOwn, end_own, entry_own, statement_own}
+use Rattle.codegen8080.proofs.{Heads.{loop_own}, NamedPlans.{OwnPlan, ParametersAreOwn, StepIsOwn, assignment_own, case_own, end_own, entry_own, if_own, move_own, return_of_own, wordless}}
+
+-- the words of the steps of any statement
+statement_own : (site : Site) (body : Body) (statement : Statement) (first : ℕ)
+    → OwnPlan site.tree.now (statement_steps body site statement first)
+unfolding statement_steps
+statement_own site body (statements.Label label) first = wordless refl
+statement_own site body statements.Null first = wordless refl
+statement_own site body (statements.Assignment targets value) first = assignment_own body site targets value
+statement_own site body (statements.Call procedure arguments) first = wordless refl
+statement_own site body (statements.Move count from to) first = move_own site count from to
+statement_own site body (statements.Return value) first = return_of_own body value
+statement_own site body statements.Halt first = wordless refl
+statement_own site body (statements.Goto label) first = wordless refl
+statement_own site body (statements.If condition then_part else_part) first =
+    if_own site body condition then_part else_part first
+statement_own site body (statements.Do list) first = wordless refl
+statement_own site body (statements.Loop head list) first = loop_own site body head list first
+statement_own site body (statements.Case choice list) first = case_own site body choice list first
 
 -- the words that load a variable
 load_byte_named : (tree : TreeModule) (site : Site) (facts : Facts) (reference : Reference) (location : Location)

@@ -1,5 +1,5 @@
 -- The words of planned steps refer only to EXTERNAL names of the module.
-use Rattle.codegen8080.proofs.Prelude.{◌≡◌, ◌++◌, replicate, ℕ, zero, suc, ◌+◌, ◌-◌, Bool, true, false, nat_lt, List, [], ◌∷◌, length, take, Option, Some, None, none-some, slice_get, refl, Instr, Parameter, ProcedureKind, Range, Statement, StatementNumber, Site, LabelNumber, Body, Planned}
+use Rattle.codegen8080.proofs.Prelude.{◌≡◌, ◌++◌, replicate, ℕ, zero, suc, ◌+◌, ◌-◌, Bool, true, false, nat_lt, List, [], ◌∷◌, length, take, Option, Some, None, none-some, slice_get, refl, Instr, Parameter, ProcedureKind, Range, StatementNumber, Site, LabelNumber, Body, Planned}
 use Rattle.std.specs.Prelude.{if◌then◌else◌, ◌/◌, ◌%◌, ◌&&◌, is_some, nat_eq, nat_le, not}
 use Rattle.isa8080.specs.declared.instr.Instr.TheVariants.{Inx, Pop, Push}
 use Rattle.isa8080.specs.declared.instr.StackPair.TheVariants.{StackBc, StackDe}
@@ -14,10 +14,7 @@ use Rattle.treecode.specs.declared.reference.Reference.{Reference}
 use Rattle.treecode.specs.declared.reference.Target.{Target}
 use Rattle.treecode.specs.declared.reference.Target.TheVariants.{Sent, Stored}
 use Rattle.treecode.specs.declared.statement.Iteration.{Iteration}
-use Rattle.treecode.specs.declared.statement.LoopHead.{LoopHead}
-use Rattle.treecode.specs.declared.statement.Statement.TheVariants as statements
 use Rattle.treecode.specs.internal.Queries.{item, source, target as target_at}
-use Rattle.treecode.proofs.Heads.{each_head}
 unfoldable use Rattle.steps8080.specs.internal.Queries.{keeps, known, location_of, number}
 use Rattle.steps8080.specs.internal.Site.{scalar}
 use Rattle.steps8080.specs.internal.Step.{label_of}
@@ -32,7 +29,7 @@ use Rattle.statements8080.specs.internal.Cases.{entry_of}
 use Rattle.statements8080.specs.internal.Plans.{label_at}
 use Rattle.statements8080.specs.internal.Plans.{nth_label}
 use Rattle.statements8080.specs.internal.Assignments.{any_target, assignment_steps, byte_steps, count_of, each_at, each_steps, is_address_first, other_word_steps, several_by, single_steps, store_at, takes_byte, takes_word, together_steps, types_by, value_steps, word_steps}
-use Rattle.statements8080.specs.internal.Branches.{computed_if_steps, goto_label, if_steps, statement_if_any, while_steps}
+use Rattle.statements8080.specs.internal.Branches.{computed_if_steps, goto_label, if_steps, statement_if_any}
 use Rattle.statements8080.specs.internal.Cases.{case_steps, statement_at}
 unfoldable use Rattle.statements8080.specs.internal.Cases.{cases_end_steps, choice_at_steps, into_table_steps, number_in_de_steps, statements_steps, table_at, table_steps}
 use Rattle.statements8080.specs.internal.Iterations.{add_de_steps, add_steps, below_steps, count_at_hl_steps, count_steps, counts_in_place, is_byte, is_byte_type, iteration_steps, loop_labels, next_byte_steps, next_steps, step_in_de_steps, turns_if_any, turns_steps}
@@ -42,8 +39,8 @@ use Rattle.statements8080.specs.internal.Tests.{less_steps}
 unfoldable use Rattle.statements8080.specs.internal.Tests.{test_of, test_steps}
 unfoldable use Rattle.codegen8080.specs.internal.Procedures.{below_return_steps, drop_steps, end_steps, entry_steps_by, exchanged_steps, frame_entry_steps, kept_steps, last_argument_steps, odd_byte_steps, popped_at, popped_from, pops_steps, push_loop_steps, pushed_arguments_steps, pushes_steps, return_of_frame_steps, return_over_any_steps, return_over_steps, return_steps_by, static_entry_steps, stores_steps as arguments_steps, zero_result_steps, zeros_steps}
 use Rattle.codegen8080.specs.internal.Procedures.{is_address, store_argument}
-unfoldable use Rattle.codegen8080.specs.internal.Statements.{return_of_steps, statement_steps}
-use Rattle.codegen8080.specs.internal.Statements.{head_steps, returned_value_steps}
+unfoldable use Rattle.codegen8080.specs.internal.Statements.{return_of_steps}
+use Rattle.codegen8080.specs.internal.Statements.{returned_value_steps}
 use Rattle.statements8080.specs.internal.Plans.{all, plain, steps_from}
 use Rattle.std.specs.List.{AllByRecursion, list_any}
 use Rattle.std.specs.Prelude.{IfSome, ◌||◌}
@@ -92,7 +89,7 @@ wordless_all tree (step ∷ others) none =
     let both = neither (is_word step) (list_any is_word others) none in
     (wordless_step tree step both.0, wordless_all tree others both.1)
 
-wordless : {tree : TreeModule} {list : List Planned} → list_any is_word list ≡ false → OwnPlan tree list
+pub wordless : {tree : TreeModule} {list : List Planned} → list_any is_word list ≡ false → OwnPlan tree list
 wordless {tree = tree} {list = list} none = record { are = wordless_all tree list none }
 
 both_all : (tree : TreeModule) (first others : List Planned)
@@ -102,7 +99,7 @@ both_all : (tree : TreeModule) (first others : List Planned)
 both_all tree [] others one two = two
 both_all tree (step ∷ first) others one two = (one.0, both_all tree first others one.1 two)
 
-own_both : {tree : TreeModule} {first others : List Planned} → OwnPlan tree first → OwnPlan tree others
+pub own_both : {tree : TreeModule} {first others : List Planned} → OwnPlan tree first → OwnPlan tree others
     → OwnPlan tree (first ++ others)
 own_both {tree = tree} {first = first} {others = others} one two =
     record { are = both_all tree first others one.are two.are }
@@ -123,12 +120,12 @@ own_repeated : {tree : TreeModule} (count : ℕ) (i : Instr) → OwnPlan tree (r
 own_repeated zero i = wordless refl
 own_repeated (suc count) i = own_after refl (own_repeated count i)
 
-own_either : {tree : TreeModule} {first second : List Planned} (b : Bool)
+pub own_either : {tree : TreeModule} {first second : List Planned} (b : Bool)
     → OwnPlan tree first → OwnPlan tree second → OwnPlan tree (if b then first else second)
 own_either true one two = one
 own_either false one two = two
 
-own_finding : {A : Type 0} {tree : TreeModule} {some : A → List Planned} {none : List Planned} (found : Option A)
+pub own_finding : {A : Type 0} {tree : TreeModule} {some : A → List Planned} {none : List Planned} (found : Option A)
     → ((x : A) → found ≡ Some x → OwnPlan tree (some x))
     → OwnPlan tree none
     → OwnPlan tree (elim found [ Some x ↦ some x | None ↦ none ])
@@ -213,7 +210,7 @@ module _ {tree : TreeModule} where
       own_either (is_some (number site value)) (each_own body site targets value)
       (together_own body targets value (scalar site value))
 
-  assignment_own : (body : Body) (site : Site) (targets : Range) (value : ExpressionNumber)
+  pub assignment_own : (body : Body) (site : Site) (targets : Range) (value : ExpressionNumber)
       → OwnPlan tree (assignment_steps body site targets value)
   assignment_own body site targets value =
       own_either (nat_eq targets.count 1) (each_own body site targets value)
@@ -265,7 +262,7 @@ module _ {tree : TreeModule} where
   returned_value_own None (Some Address) = wordless refl
   returned_value_own None None = wordless refl
 
-  return_of_own : (body : Body) (value : Option ExpressionNumber) → OwnPlan tree (return_of_steps body value)
+  pub return_of_own : (body : Body) (value : Option ExpressionNumber) → OwnPlan tree (return_of_steps body value)
   unfolding return_of_steps
   return_of_own body value =
       own_both (returned_value_own value body.procedure.now.result)
@@ -476,7 +473,7 @@ module _ (site : Site) where
       (wordless refl)))
       (own_either (keeps site destination).de (wordless refl) (wordless refl))
 
-  move_own : (count source destination : ExpressionNumber)
+  pub move_own : (count source destination : ExpressionNumber)
       → OwnPlan site.tree.now (move_steps site count source destination)
   move_own count source destination =
       own_finding (known site count)
@@ -612,7 +609,7 @@ module _ (site : Site) where
       by (Some (Frame variable offset)) is = tt
       by None is = tt
 
-  iteration_own : (body : Body) (head : Iteration) (list : Range) (first : ℕ)
+  pub iteration_own : (body : Body) (head : Iteration) (list : Range) (first : ℕ)
       → OwnPlan site.tree.now (iteration_steps body site head list first)
   unfolding first_steps
   iteration_own body head list first =
@@ -622,7 +619,7 @@ module _ (site : Site) where
       (turns_if_any_own (has_a_turn site (counter_of site head) head) (counter_of site head) head list first
       (counter_own head))
 
-  -- IF and DO WHILE
+  -- IF
   computed_if_own : (body : Body) (condition : ExpressionNumber) (then_part : StatementNumber)
       (else_part : Option StatementNumber) (first : ℕ)
       → OwnPlan site.tree.now (computed_if_steps body site condition then_part else_part first)
@@ -634,7 +631,7 @@ module _ (site : Site) where
   any_statement_own (Some part) = wordless refl
   any_statement_own None = wordless refl
 
-  if_own : (body : Body) (condition : ExpressionNumber) (then_part : StatementNumber)
+  pub if_own : (body : Body) (condition : ExpressionNumber) (then_part : StatementNumber)
       (else_part : Option StatementNumber) (first : ℕ)
       → OwnPlan site.tree.now (if_steps body site condition then_part else_part first)
   if_own body condition then_part else_part first =
@@ -643,13 +640,6 @@ module _ (site : Site) where
       (own_finding (goto_label body then_part)
       (λ label there. own_after refl (any_statement_own else_part))
       (computed_if_own body condition then_part else_part first))
-
-  while_own : (condition : ExpressionNumber) (list : Range) (first : ℕ)
-      → OwnPlan site.tree.now (while_steps site condition list first)
-  while_own condition list first =
-      own_finding (number site condition)
-      (λ known there. own_either (nat_eq (known % 2) 1) (wordless refl) (wordless refl))
-      (own_both (own_either (nat_lt 0 list.count) (wordless refl) (wordless refl)) (wordless refl))
 
   -- DO CASE
   number_in_de_own : (kind : ScalarType) (choice : ExpressionNumber) (count : ℕ) (end : LabelNumber)
@@ -700,30 +690,10 @@ module _ (site : Site) where
       (own_both (table_own body list own end)
       (own_both (statements_own body list own end) (cases_end_own end))))
 
-  case_own : (body : Body) (choice : ExpressionNumber) (list : Range) (first : ℕ)
+  pub case_own : (body : Body) (choice : ExpressionNumber) (list : Range) (first : ℕ)
       → OwnPlan site.tree.now (case_steps body site choice list first)
   case_own body choice list first =
       own_finding (number site choice)
       (λ known there. own_finding (item body.tree.now list known) (λ found is. wordless refl) (wordless refl))
       (own_either (nat_eq list.count 0) (wordless refl)
       (choice_own body choice list (label_of first) (nth_label first 1) (nth_label first 2)))
-
-  -- any statement
-  pub statement_own : (body : Body) (statement : Statement) (first : ℕ)
-      → OwnPlan site.tree.now (statement_steps body site statement first)
-  unfolding statement_steps
-  statement_own body (statements.Label label) first = wordless refl
-  statement_own body statements.Null first = wordless refl
-  statement_own body (statements.Assignment targets value) first = assignment_own body site targets value
-  statement_own body (statements.Call procedure arguments) first = wordless refl
-  statement_own body (statements.Move count from to) first = move_own count from to
-  statement_own body (statements.Return value) first = return_of_own body value
-  statement_own body statements.Halt first = wordless refl
-  statement_own body (statements.Goto label) first = wordless refl
-  statement_own body (statements.If condition then_part else_part) first =
-      if_own body condition then_part else_part first
-  statement_own body (statements.Do list) first = wordless refl
-  statement_own body (statements.Loop head list) first =
-      each_head (λ (one : LoopHead). OwnPlan site.tree.now (head_steps body site one list first))
-      (λ condition. while_own condition list first) (λ iteration. iteration_own body iteration list first) head
-  statement_own body (statements.Case choice list) first = case_own body choice list first

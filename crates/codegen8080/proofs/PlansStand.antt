@@ -17,7 +17,7 @@ use Rattle.treecode.specs.declared.reference.Target.{Target}
 use Rattle.treecode.specs.declared.reference.Target.TheVariants.{Sent, Stored}
 use Rattle.treecode.specs.declared.statement.Iteration.{Iteration}
 use Rattle.treecode.specs.declared.statement.Statement.TheVariants as statements
-use Rattle.treecode.specs.internal.Lowered.{IsAssignment, IsCall, IsCase, IsDo, IsElse, IsGoto, IsHalt, IsIf, IsCountHead, IsLabel, IsLoop, IsMove, IsNoElse, IsNull, IsReturn, IsSomeElse, IsStatementForm, IsWhileHead}
+use Rattle.treecode.specs.internal.Lowered.{IsAssignment, IsCall, IsCase, IsDo, IsElse, IsGoto, IsHalt, IsIf, IsLabel, IsLoop, IsMove, IsNoElse, IsNull, IsReturn, IsSomeElse, IsStatementForm}
 use Rattle.treecode.specs.internal.Nodes.{Nodes, nodes_of}
 use Rattle.treecode.specs.internal.Queries.{item, source, target as target_at}
 unfoldable use Rattle.steps8080.specs.internal.Queries.{keeps, known, location_of, number}
@@ -32,7 +32,7 @@ use Rattle.statements8080.specs.internal.Bodies.{is_near}
 use Rattle.statements8080.specs.internal.Counters.{counter_of, counter_place, counts_by_one, has_a_turn}
 use Rattle.statements8080.specs.internal.Plans.{nth_label}
 use Rattle.statements8080.specs.internal.Assignments.{any_target, assignment_steps, byte_steps, count_of, each_at, each_steps, is_address_first, other_word_steps, several_by, single_steps, store_at, takes_byte, takes_word, together_steps, types_by, value_steps, word_steps}
-use Rattle.statements8080.specs.internal.Branches.{computed_if_steps, goto_label, if_steps, statement_if_any, while_steps}
+use Rattle.statements8080.specs.internal.Branches.{computed_if_steps, goto_label, if_steps, statement_if_any}
 use Rattle.statements8080.specs.internal.Cases.{case_steps, statement_at}
 unfoldable use Rattle.statements8080.specs.internal.Cases.{cases_end_steps, choice_at_steps, into_table_steps, number_in_de_steps, statements_steps, table_at, table_steps}
 use Rattle.statements8080.specs.internal.Iterations.{add_de_steps, add_steps, below_steps, count_at_hl_steps, count_steps, counts_in_place, is_byte, is_byte_type, iteration_steps, loop_labels, next_byte_steps, next_steps, step_in_de_steps, turns_if_any, turns_steps}
@@ -44,6 +44,7 @@ unfoldable use Rattle.codegen8080.specs.internal.Procedures.{below_return_steps,
 use Rattle.codegen8080.specs.internal.Procedures.{is_address, store_argument}
 unfoldable use Rattle.codegen8080.specs.internal.Statements.{return_of_steps, statement_steps}
 use Rattle.codegen8080.specs.internal.Statements.{returned_value_steps}
+use Rattle.codegen8080.proofs.Heads.{loop_stands}
 use Rattle.codegen8080.proofs.Standing.{all_stand, both_stand, each_stand, either_stand, finding_stand, found_stands, list_stands, plain_stand, repeated_stand, statement_stands}
 use Rattle.codegen8080.specs.internal.Standing.{FormStands, ListStands, MoreStand, NoneStand, StepStands, StepsStand}
 
@@ -475,14 +476,6 @@ module _ {nodes : Nodes} {bound : ℕ} where
         (Stored (scalar site head.first) (counter_of site head).scalar (counter_of site head).reference) head.first)
         (turns_if_any_stand (has_a_turn site (counter_of site head) head) site (counter_of site head) head first)
 
-    while_stands : (site : Site) (condition : ExpressionNumber) (first : ℕ)
-        → StepsStand nodes bound (while_steps site condition list first)
-    while_stands site condition first =
-        finding_stand (number site condition)
-        (λ found is. either_stand (nat_eq (found % 2) 1) (MoreStand tt (MoreStand tt (MoreStand stands (plain_stand _ refl)))) NoneStand)
-        (both_stand (either_stand (nat_lt 0 list.count) (plain_stand _ refl) NoneStand)
-        (MoreStand tt (MoreStand stands (plain_stand _ refl))))
-
 -- DO CASE
 module _ {bound : ℕ} (body : Body) (list : Range) (stands : ListStands (nodes_of body.tree.now) bound list) where
   abbrev Stand : List Planned → Type 0
@@ -564,10 +557,9 @@ module _ {storage : Storage} {labels : List ℕ} {bound : ℕ} (body : Body) whe
   form_steps_stand site first (IsIf {condition = condition} {body = then_part} {otherwise = part} is then_is else_is) =
       if_stands then_part (statement_stands then_is) body site condition part first (else_stands else_is)
   form_steps_stand site first (IsDo is) = MoreStand (list_stands is) NoneStand
-  form_steps_stand site first (IsLoop {range = range} (IsWhileHead {condition = condition} is) list_is) =
-      while_stands range (list_stands list_is) site condition first
-  form_steps_stand site first (IsLoop {range = range} (IsCountHead {head = head} is) list_is) =
-      iteration_stands range (list_stands list_is) body site head first
+  form_steps_stand site first (IsLoop {head = head} {range = range} is list_is) =
+      loop_stands range (list_stands list_is) body site first
+      (λ iteration. iteration_stands range (list_stands list_is) body site iteration first) head
   form_steps_stand site first (IsCase {choice = choice} {range = range} {trees = trees} is are) =
       case_stands body range (record { storage = storage; labels = labels; trees = trees; are = are }) site choice first
 

@@ -1,5 +1,5 @@
 -- The code of a statement whose end can't be reached has a byte at least, and so has the code of each procedure.
-use Rattle.codegen8080.proofs.Prelude.{◌≡◌, ◌⊎◌, inl, inr, ℕ, ◌<◌, ◌∙◌, Bool, true, false, not, if◌then◌else◌, List, [], ◌∷◌, ◌++◌, Option, Some, None, same_Some, refl, sym, ap, subst, arith, or_parts, Item, Instr, Range, Statement, StatementNumber, TreeModule, TreeProcedure, ProcedureKind, Facts, Site, Body, Planned, Here, size_of_items, AreWritten, PlainWritten, AreAllCarriedOut, AreCarriedOut, HoldsNoStatement, IsCarriedOut, IsListCarriedOut, ListCarriedOut, ListPlanned, MoreStatements, NoStatements, NoneCarriedOut, StatementCarriedOut, StatementPlanned, StepCarriedOut, IsEndCode, IsProcedureCode, site_of, carried_steps, knowing, statement_steps, end_steps}
+use Rattle.codegen8080.proofs.Prelude.{◌≡◌, ◌⊎◌, inl, inr, ℕ, ◌<◌, ◌∙◌, Bool, true, false, if◌then◌else◌, List, [], ◌∷◌, ◌++◌, Option, Some, None, same_Some, refl, sym, subst, arith, or_parts, Item, Instr, Range, Statement, StatementNumber, TreeModule, TreeProcedure, ProcedureKind, Facts, Site, Body, Planned, Here, size_of_items, AreWritten, PlainWritten, AreAllCarriedOut, AreCarriedOut, HoldsNoStatement, IsCarriedOut, IsListCarriedOut, ListCarriedOut, ListPlanned, MoreStatements, NoStatements, NoneCarriedOut, StatementCarriedOut, StatementPlanned, StepCarriedOut, IsEndCode, IsProcedureCode, site_of, carried_steps, knowing, statement_steps, end_steps}
 use Rattle.std.specs.Prelude.{nat_eq, ◌%◌, length}
 use Rattle.isa8080.specs.declared.instr.Instr.TheVariants as instrs
 use Rattle.asm8080.proofs.CodeInParts.{size_in_parts}
@@ -10,22 +10,19 @@ use Rattle.trees.specs.declared.declaration.ScalarType.{ScalarType}
 use Rattle.trees.specs.declared.declaration.ScalarType.TheVariants as scalars
 use Rattle.treecode.specs.declared.expression.ExpressionNumber.{ExpressionNumber}
 use Rattle.treecode.specs.declared.place.Home.{Home}
-use Rattle.treecode.specs.declared.place.Place.{Place}
 use Rattle.treecode.specs.declared.procedure.ProcedureKind.TheVariants as kinds
-use Rattle.treecode.specs.internal.Known.{known_number}
-use Rattle.treecode.specs.internal.Lowered.{AreMoreStatements, AreNoStatements, AreStatements, HasBody, IsAssignment, IsCall, IsCase, IsDo, IsElse, IsGoto, IsHalt, IsIf, IsCountHead, IsLabel, IsList, IsListOf, IsLoop, IsMove, IsNoElse, IsNull, IsReturn, IsSomeElse, IsStatement, IsStatementForm, IsStatementNode, IsWhileHead, ends_by, labels_numbered_in_list, reaches_end, reaches_end_of_else, reaches_end_of_list, reaches_end_of_statements}
+use Rattle.treecode.specs.internal.Lowered.{AreMoreStatements, AreNoStatements, AreStatements, HasBody, IsAssignment, IsCall, IsCase, IsDo, IsElse, IsGoto, IsHalt, IsIf, IsLabel, IsList, IsListOf, IsLoop, IsMove, IsNoElse, IsNull, IsReturn, IsSomeElse, IsStatement, IsStatementForm, IsStatementNode, labels_numbered_in_list, reaches_end, reaches_end_of_else, reaches_end_of_list, reaches_end_of_statements}
 use Rattle.treecode.specs.internal.Nodes.{nodes_of}
 use Rattle.treecode.specs.internal.Traits.{KeepTraits}
-use Rattle.treecode.proofs.KeptValues.{known_kept}
 use Rattle.steps8080.proofs.Numbered.{not_both}
-use Rattle.steps8080.proofs.SiteTraits.{number_is}
 use Rattle.steps8080.specs.declared.step.LabelNumber.{LabelNumber}
 use Rattle.steps8080.specs.declared.step.Step.TheVariants as steps
 unfoldable use Rattle.steps8080.specs.internal.Queries.{known, number}
 use Rattle.exprgen8080.specs.internal.Emission.{JumpWritten}
 use Rattle.statements8080.specs.declared.plan.Planned.TheVariants as planned
-use Rattle.statements8080.specs.internal.Branches.{branch, both_steps, computed_if_steps, either_steps, forever_steps, goto_label, if_steps, statement_if_any, tested_if_steps, tested_while_steps, while_steps}
+use Rattle.statements8080.specs.internal.Branches.{branch, both_steps, computed_if_steps, either_steps, goto_label, if_steps, statement_if_any, tested_if_steps}
 use Rattle.statements8080.specs.internal.Plans.{plain}
+use Rattle.codegen8080.proofs.Heads.{loop_begins}
 use Rattle.codegen8080.specs.internal.Procedures.{return_steps}
 unfoldable use Rattle.codegen8080.specs.internal.Procedures.{drop_steps, pops_steps, return_of_frame_steps, return_over_any_steps, return_over_steps, return_steps_by, zero_result_steps}
 unfoldable use Rattle.codegen8080.specs.internal.Statements.{return_of_steps}
@@ -199,25 +196,6 @@ module _ (body : Body) (called : List Bool) (site : Site) (condition : Expressio
         by (Some known) = chosen (nat_eq (known % 2) 1)
         by None = tested_fills otherwise fills
 
--- DO WHILE has one if its condition is known to be true
-while_fills : (body : Body) (called : List Bool) (site : Site) (condition : ExpressionNumber) (range : Range) (first : ℕ)
-    → ends_by (number site condition) ≡ false
-    → SomeFill body called (while_steps site condition range first)
-while_fills body called site condition range first none = by (number site condition) none
-  where
-    forever : (is : Bool) → not is ≡ false
-        → SomeFill body called (if is then forever_steps range first else [])
-    forever true none = inl tt
-    forever false none = absurd (not_both true refl none)
-
-    by : (found : Option ℕ) → ends_by found ≡ false
-        → SomeFill body called (elim found [
-          | Some known ↦ if nat_eq (known % 2) 1 then forever_steps range first else []
-          | None ↦ tested_while_steps condition range first
-        ])
-    by (Some known) none = forever (nat_eq (known % 2) 1) none
-    by None none = absurd (not_both true refl none)
-
 returned_fills : (body : Body) (called : List Bool) (value : Option ExpressionNumber)
     → SomeFill body called (return_of_steps body value)
 unfolding return_of_steps
@@ -264,17 +242,13 @@ module _ (body : Body) (called : List Bool) (storage : Storage) (labels : List �
           if_fills body called (knowing (site_of body) facts) condition then_part first
           (statement_some then_part then_is both.0) otherwise (else_some else_is both.1)
       form_some facts first (IsDo {range = range} is) none = inl (list_some range is none)
-      form_some facts first (IsLoop {range = range} (IsWhileHead {condition = condition} test) is) none =
-          while_fills body called (knowing (site_of body) facts) condition range first
-          (ap ends_by (number_is (knowing (site_of body) facts) condition
-          ∙ ap (λ (found : Option Place). known_number found) (known_kept (nodes_of body.tree.now) storage keeps test))
-          ∙ none)
+      form_some facts first (IsLoop {range = range} head is) none =
+          loop_begins (SomeFill body called) (λ i others. inl tt) body storage keeps facts first range head none
       form_some facts first (IsLabel at) none = absurd (not_both true refl none)
       form_some facts first IsNull none = absurd (not_both true refl none)
       form_some facts first (IsAssignment _ value) none = absurd (not_both true refl none)
       form_some facts first (IsCall arguments) none = absurd (not_both true refl none)
       form_some facts first (IsMove count source destination) none = absurd (not_both true refl none)
-      form_some facts first (IsLoop (IsCountHead iteration) is) none = absurd (not_both true refl none)
       form_some facts first (IsCase choice are) none = absurd (not_both true refl none)
 
       else_some :

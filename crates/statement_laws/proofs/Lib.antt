@@ -16,6 +16,7 @@ pub mod Returns
 pub mod Targets
 pub mod Assignments
 pub mod Loops
+pub mod Heads
 pub mod Moves
 pub mod Cases
 pub mod Together

@@ -1,17 +1,14 @@
 -- Statements of each form do what they say.
 use Rattle.statement_laws.proofs.Prelude.{slice_get, Some, ◌≡◌, Statement, StatementNumber, nodes_in, BodyContext, IsSoundBody, StatementDoes, StatementStands, StatementsDo}
-use Rattle.treecode.specs.declared.statement.LoopHead.{LoopHead}
 use Rattle.treecode.specs.declared.statement.Statement.TheVariants as statements
-use Rattle.treecode.proofs.Heads.{each_head}
 use Rattle.statement_laws.proofs.Assignments.Assigned.{assignment_does}
 use Rattle.statement_laws.proofs.Cases.CasesDo.{case_does}
 use Rattle.statement_laws.proofs.Loops.Counted.{counts_do}
-use Rattle.statement_laws.proofs.Loops.GeneralDo.{each_iterate_does}
+use Rattle.statement_laws.proofs.Heads.{loop_does}
 use Rattle.statement_laws.proofs.Ifs.{if_does}
 use Rattle.statement_laws.proofs.Moves.Moves.{move_does}
 use Rattle.statement_laws.proofs.Returns.{return_does}
 use Rattle.statement_laws.proofs.Simple.{FormDoes, call_does, do_does, form_does, goto_does, halt_does, label_does, null_does}
-use Rattle.statement_laws.proofs.Whiles.{while_does}
 
 -- a statement of the body, by its number
 abbrev IsThatOne : BodyContext → StatementNumber → Statement → Type 0
@@ -44,11 +41,5 @@ statements_do at sound before number statement label from after to there stands 
         formed there (if_does at before condition then_part else_part label from after to sound stands)
     by (statements.Do list) there stands = formed there (do_does at before list label from after to stands)
     by (statements.Loop head list) there stands =
-        formed there
-        (each_head
-        (λ (one : LoopHead). StatementStands at before (statements.Loop one list) label from after to
-        → FormDoes at before (statements.Loop one list) from after to)
-        (λ condition stands. while_does at before condition list label from after to sound stands)
-        (λ iteration stands. each_iterate_does at before iteration list label from after to sound stands)
-        head stands)
+        formed there (loop_does at before head list label from after to sound stands)
     by (statements.Case choice list) there stands = case_does at before number choice list label from after to sound there stands

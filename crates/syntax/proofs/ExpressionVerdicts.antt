@@ -1,10 +1,10 @@
 -- What reading expressions, and what is declared, gives, and how it ends.
-use Rattle.syntax.proofs.Prelude.{◌≡◌, ℕ, Bool, true, false, nat_le, List, Some, None, if◌then◌else◌, refl, ◌∙◌, ap, arith, leb-true, leb-false, AllByRecursion, LeftParenthesis, expression_level, IsNotEmpty, IsElement, IsExpression, IsReference, AreArguments, expression_height, reference_height, arguments_height, between_commas, element_symbols, heading_symbols, expression_symbols, reference_symbols, arguments_symbols, Symbol, ExpressionTree, ReferenceTree, ArgumentTrees, ElementTree, element, heading, items, expression, reference, arguments, TooDeep, Reading, at_mark}
+use Rattle.syntax.proofs.Prelude.{◌≡◌, ℕ, Bool, true, false, nat_le, List, Some, None, if◌then◌else◌, refl, ◌∙◌, ap, arith, leb-true, leb-false, AllByRecursion, LeftParenthesis, expression_level, IsNotEmpty, IsElement, IsExpression, IsReference, AreArguments, expression_height, reference_height, arguments_height, between_commas, element_symbols, heading_symbols, expression_symbols, reference_symbols, arguments_symbols, Symbol, ExpressionTree, ReferenceTree, ArgumentTrees, ElementTree, element, heading, items, expression, reference, arguments, TooDeep, Reading, at_mark, ◌<◌, length, sym, subst, DerivesExpression, expression-spelled, expression-derived}
 use Rattle.syntax.proofs.DeclarationLaws.{elements-sound, heading-sound}
-use Rattle.syntax.proofs.ExpressionLaws.{depth_fault, EndsReference, EndsExpression, expression-sound, reference-sound, arguments-sound, expression-reads, reference-reads, arguments-reads}
+use Rattle.syntax.proofs.ExpressionLaws.{depth_fault, EndsReference, EndsExpression, expression-sound, reference-sound, arguments-sound, expression-reads, reference-reads, arguments-reads, expression-long}
 use Rattle.syntax.proofs.ListLaws.{gave}
 use Rattle.syntax.proofs.StatementVerdictLists.{GetsSpelled}
-use Rattle.syntax.proofs.StatementVerdictRules.{Verdict, fits, too_deep}
+use Rattle.syntax.proofs.StatementVerdictRules.{Verdict, fits, too_deep, Gets, gets_more, verdict_same}
 
 pub expression-gets : (room : ℕ)
     → GetsSpelled expression_symbols (IsExpression expression_level) (expression room expression_level)
@@ -62,3 +62,32 @@ pub arguments-verdict : (strict : Bool) (room : ℕ) (t : ArgumentTrees) (r : Li
     → Verdict (arguments (expression room) (arguments_symbols t r)) (t, r) strict room (arguments_height t)
     (Unit {0})
 arguments-verdict strict room t r h ends = depth-verdict (arguments-reads room t r h ends)
+
+-- an expression that is derived: its length, what is read, and how that ends
+pub expression-shorter : {level : ℕ} {s r : List Symbol} {t : ExpressionTree}
+    → DerivesExpression level s t r
+    → length r < length s
+expression-shorter {level} {s} {r} {t} d =
+    omega (arith, expression-long t r, ap length (expression-spelled d).0)
+
+pub expression-derives : (room : ℕ) (s : List Symbol)
+    → Gets (λ found. DerivesExpression expression_level s found.0 found.1)
+    (expression room expression_level s)
+expression-derives room s =
+    gets_more (expression-gets room s) λ found h.
+    subst (λ (k : List Symbol). DerivesExpression expression_level k found.0 found.1) (sym h.0)
+    (expression-derived expression_level found.0 found.1 h.1)
+
+pub expression-left : {level : ℕ} {s rest left : List Symbol} {t : ExpressionTree} → rest ≡ left
+    → DerivesExpression level s t rest → DerivesExpression level s t left
+expression-left {level} {s} {rest} {left} {t} e d =
+    subst (λ (k : List Symbol). DerivesExpression level s t k) e d
+
+pub derived_expression : (strict : Bool) (room : ℕ) {s r : List Symbol} {t : ExpressionTree}
+    → DerivesExpression expression_level s t r
+    → EndsExpression r
+    → Verdict (expression room expression_level s) (t, r) strict room (expression_height t) (Unit {0})
+derived_expression strict room {s} {r} {t} d ends =
+    let h = expression-spelled d in
+    verdict_same (ap (expression room expression_level) h.0)
+    (expression-verdict strict room expression_level t r h.1 ends)

@@ -19,6 +19,7 @@ pub mod DeclarationLoops
 pub mod StatementVerdictRules
 pub mod StatementVerdictLists
 pub mod ExpressionVerdicts
+pub mod Heads
 pub mod StatementBeginnings
 pub mod StatementInsides
 pub mod StatementTargets

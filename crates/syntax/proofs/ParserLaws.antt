@@ -4,9 +4,9 @@ use Rattle.words.specs.declared.vocabulary.Mark.TheVariants as marks
 use Rattle.words.specs.declared.vocabulary.ReservedWord.TheVariants as words
 use Rattle.syntax.proofs.ReaderLemmas.{taken-ok, place_of_word-is}
 use Rattle.syntax.proofs.StatementLaws.{body-gets, body-verdict}
-use Rattle.syntax.proofs.StatementSoundness.{mark-gets, semicolon-gets, name-gets, ending-gets, statements-left}
+use Rattle.syntax.proofs.StatementSoundness.{ending-gets, statements-left}
 use Rattle.syntax.proofs.StatementVerdicts.{ending-verdict, ends_of_block, block_of_ends}
-use Rattle.syntax.proofs.StatementVerdictRules.{Gets, gets_ok, gets_nothing, gets_bind, Verdict, fits, too_deep, other_name, verdict_bind, verdict_last, verdict_as, verdict_given, verdict_reads, verdict_deep, verdict_other_name}
+use Rattle.syntax.proofs.StatementVerdictRules.{Gets, gets_ok, gets_nothing, gets_bind, Verdict, fits, too_deep, other_name, verdict_bind, verdict_last, verdict_as, verdict_given, verdict_reads, verdict_deep, verdict_other_name, mark-gets, semicolon-gets, name-gets}
 
 place-gets : (s : List Symbol)
     → Gets (λ found. s ≡ PlacedSymbol words.Do found.0 ∷ found.1) (taken (place_of_word words.Do s) s)

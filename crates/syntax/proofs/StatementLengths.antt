@@ -1,19 +1,15 @@
 -- Each statement and each declaration is derived from a symbol at least.
-use Rattle.syntax.proofs.Prelude.{◌≤◌, ◌<◌, ℕ, List, ◌∷◌, length, Option, Some, None, ap, arith, Identifier, DerivesExpression, DerivesReference, DerivesArguments, DerivesTargets, last_target, next_target, DerivesStatement, labelled, unlabelled, DerivesKind, null, return, halt, if_then, if_then_else, DerivesHead, while_head, count_head, count_by_head, do_loop, do_case, DerivesStatements, no_statement, next_statement, DerivesDeclaration, DerivesDeclarations, no_declaration, next_declaration, element_symbols, ending_symbols, Symbol, SemicolonSymbol, ExpressionTree, ReferenceTree, ArgumentTrees, LoopHeadTree, StatementTree, StatementKindTree, StatementTrees, DeclarationTree, DeclarationTrees, expression-spelled, reference-spelled, arguments-spelled}
+use Rattle.syntax.proofs.Prelude.{◌≤◌, ◌<◌, List, ◌∷◌, length, Option, Some, None, ap, arith, Identifier, DerivesReference, DerivesArguments, DerivesTargets, last_target, next_target, DerivesStatement, labelled, unlabelled, DerivesKind, null, return, halt, if_then, if_then_else, do_loop, do_case, DerivesStatements, no_statement, next_statement, DerivesDeclaration, DerivesDeclarations, no_declaration, next_declaration, element_symbols, ending_symbols, Symbol, SemicolonSymbol, ReferenceTree, ArgumentTrees, StatementTree, StatementKindTree, StatementTrees, DeclarationTree, DeclarationTrees, reference-spelled, arguments-spelled}
 use Rattle.grammar.specs.Derivation.{assignment, call, return_value, goto, simple_do, declare, procedure}
 use Rattle.syntax.proofs.DeclarationLaws.{heading-reads, heading-shrinks}
-use Rattle.syntax.proofs.ExpressionLaws.{expression-long, reference-long, arguments-long}
+use Rattle.syntax.proofs.ExpressionLaws.{reference-long, arguments-long}
 use Rattle.syntax.proofs.DeclarationItems.{between_commas-lengthens, element-lengthens}
+use Rattle.syntax.proofs.ExpressionVerdicts.{expression-shorter}
+use Rattle.syntax.proofs.Heads.{head-shorter}
 
 ending_symbols-long : (n : Option Identifier) (r : List Symbol) → length r < length (ending_symbols n r)
 ending_symbols-long None r = omega arith
 ending_symbols-long (Some n) r = omega arith
-
-expression-shorter : {level : ℕ} {s r : List Symbol} {t : ExpressionTree}
-    → DerivesExpression level s t r
-    → length r < length s
-expression-shorter {level} {s} {r} {t} d =
-    omega (arith, expression-long t r, ap length (expression-spelled d).0)
 
 reference-shorter : {s r : List Symbol} {t : ReferenceTree} → DerivesReference s t r → length r < length s
 reference-shorter {s} {r} {t} d = omega (arith, reference-long t r, ap length (reference-spelled d).0)
@@ -24,12 +20,6 @@ arguments-shorter {s} {r} {t} d = omega (arith, arguments-long t r, ap length (a
 targets-shorter : {s r : List Symbol} {t : List ReferenceTree} → DerivesTargets s t r → length r < length s
 targets-shorter (last_target d) = reference-shorter d
 targets-shorter (next_target d ds) = omega (arith, reference-shorter d, targets-shorter ds)
-
-head-shorter : {s r : List Symbol} {t : LoopHeadTree} → DerivesHead s t r → length r < length s
-head-shorter (while_head d) = omega (arith, expression-shorter d)
-head-shorter (count_head d₁ d₂) = omega (arith, expression-shorter d₁, expression-shorter d₂)
-head-shorter (count_by_head d₁ d₂ d₃) =
-    omega (arith, expression-shorter d₁, expression-shorter d₂, expression-shorter d₃)
 
 mutual
   pub statement-shorter : {s r : List Symbol} {t : StatementTree}

@@ -1,25 +1,13 @@
 -- What is read of statements and declarations is derived from the symbols.
-use Rattle.syntax.proofs.Prelude.{◌≡◌, ℕ, zero, suc, Bool, true, false, List, [], ◌∷◌, drop, length, Option, Some, None, Err, if◌then◌else◌, refl, sym, ◌∙◌, ap, subst, AllByRecursion, Mark, ReservedWord, Identifier, Place, DerivesExpression, DerivesArguments, DerivesTargets, DerivesStatement, labelled, unlabelled, DerivesKind, null, assignment_line, call_line, return, return_value_line, halt_line, goto_line, if_then, if_then_else, simple_do_line, DerivesHead, while_head, count_head, count_by_head, do_loop, do_case, DerivesStatements, no_statement, next_statement, DerivesDeclaration, declare_line, procedure_line, DerivesDeclarations, no_declaration, next_declaration, expression_level, IsNotEmpty, ends_in_open_if, is_open_if, IsReference, reference_symbols, between_commas, optional, name_symbols, element_symbols, heading_symbols, ending_symbols, Symbol, NameSymbol, NumberSymbol, StringSymbol, ReservedSymbol, PlacedSymbol, MarkSymbol, SemicolonSymbol, UnknownSymbol, ExpressionTree, ArgumentTrees, ReferenceTree, LoopHeadTree, CountHead, StatementTree, LabelledStatement, StatementKindTree, IfStatement, ElseTree, NoElse, ElseStatement, StatementTrees, DeclarationTree, DeclareTree, ProcedureTree, DeclarationTrees, expression-derived, arguments-derived, targets-derived, expression, reference, arguments, items, many, many_items, Parser, TooDeep, Reading, at_mark, at_word, next_name, mark, semicolon, word, name, BlockParser, at_semicolon, labels_before, after_labels, statements_of, declarations_of, ends_declarations, statements, declarations, block, end_of_do, body_of_do, end_name, ending, assignment, call, return_value, otherwise, conditional, step, iteration, loop_head, simple_do, case_do, loop_do, do_statement, goto, beginning_of, kind_by, statement_by, procedure, declare, declare_or, statement, declaration}
+use Rattle.syntax.proofs.Prelude.{◌≡◌, ℕ, zero, suc, Bool, true, false, List, [], ◌∷◌, drop, length, Option, Some, None, Err, if◌then◌else◌, refl, sym, ◌∙◌, ap, subst, AllByRecursion, ReservedWord, Identifier, Place, DerivesExpression, DerivesArguments, DerivesTargets, DerivesStatement, labelled, unlabelled, DerivesKind, null, assignment_line, call_line, return, return_value_line, halt_line, goto_line, if_then, if_then_else, simple_do_line, do_loop, do_case, DerivesStatements, no_statement, next_statement, DerivesDeclaration, declare_line, procedure_line, DerivesDeclarations, no_declaration, next_declaration, expression_level, IsNotEmpty, ends_in_open_if, is_open_if, IsReference, reference_symbols, between_commas, optional, name_symbols, element_symbols, heading_symbols, ending_symbols, Symbol, NameSymbol, NumberSymbol, StringSymbol, ReservedSymbol, PlacedSymbol, MarkSymbol, SemicolonSymbol, UnknownSymbol, ExpressionTree, ArgumentTrees, ReferenceTree, StatementTree, LabelledStatement, StatementKindTree, IfStatement, ElseTree, NoElse, ElseStatement, StatementTrees, DeclarationTree, DeclareTree, ProcedureTree, DeclarationTrees, arguments-derived, targets-derived, expression, reference, arguments, items, many, many_items, Parser, TooDeep, Reading, at_mark, at_word, next_name, BlockParser, at_semicolon, labels_before, after_labels, statements_of, declarations_of, ends_declarations, statements, declarations, block, end_of_do, body_of_do, end_name, ending, assignment, call, return_value, otherwise, conditional, simple_do, case_do, loop_do, do_statement, goto, beginning_of, kind_by, statement_by, procedure, declare, declare_or, statement, declaration}
 use Rattle.words.specs.declared.vocabulary.Mark.TheVariants as marks
 use Rattle.words.specs.declared.vocabulary.ReservedWord.TheVariants as words
 use Rattle.syntax.specs.internal.Statements.{halt}
-use Rattle.syntax.proofs.ExpressionVerdicts.{expression-gets, reference-gets, arguments-gets, elements-gets, heading-gets}
-use Rattle.syntax.proofs.ReaderLemmas.{at_mark-is, at_word-is, mark-ok, semicolon-ok, word-ok, name-ok, next_name-is}
+use Rattle.syntax.proofs.ExpressionVerdicts.{reference-gets, arguments-gets, elements-gets, heading-gets, expression-derives, expression-left}
+use Rattle.syntax.proofs.ReaderLemmas.{at_mark-is, at_word-is, next_name-is}
 use Rattle.syntax.proofs.StatementVerdictLists.{items-gets}
-use Rattle.syntax.proofs.StatementVerdictRules.{Gets, gets_ok, gets_nothing, gets_bind, gets_if, gets_more}
-
--- single symbols
-pub mark-gets : (m : Mark) (s : List Symbol) → Gets (λ r. s ≡ MarkSymbol m ∷ r) (mark m s)
-mark-gets m s = record { holds = λ r e. mark-ok m s r e }
-
-pub semicolon-gets : (s : List Symbol) → Gets (λ found. s ≡ SemicolonSymbol found.0 ∷ found.1) (semicolon s)
-semicolon-gets s = record { holds = λ found e. semicolon-ok s found.1 found.0 e }
-
-word-gets : (w : ReservedWord) (s : List Symbol) → Gets (λ r. s ≡ ReservedSymbol w ∷ r) (word w s)
-word-gets w s = record { holds = λ r e. word-ok w s r e }
-
-pub name-gets : (s : List Symbol) → Gets (λ found. s ≡ NameSymbol found.0 ∷ found.1) (name s)
-name-gets s = record { holds = λ found e. name-ok s found.1 found.0 e }
+use Rattle.syntax.proofs.StatementVerdictRules.{Gets, gets_ok, gets_nothing, gets_bind, gets_if, gets_more, mark-gets, semicolon-gets, word-gets, name-gets}
+use Rattle.syntax.proofs.Heads.{head-left, loop_head-gets}
 
 at_semicolon-is : (s : List Symbol)
     → at_semicolon s ≡ true
@@ -28,15 +16,7 @@ at_semicolon-is (SemicolonSymbol place ∷ rest) e = (place, refl)
 at_semicolon-is [] e = absurd cc
 at_semicolon-is (x ∷ rest) e = absurd cc
 
--- what is read of expressions, arguments and targets
-expression-derives : (room : ℕ) (s : List Symbol)
-    → Gets (λ found. DerivesExpression expression_level s found.0 found.1)
-    (expression room expression_level s)
-expression-derives room s =
-    gets_more (expression-gets room s) λ found h.
-    subst (λ (k : List Symbol). DerivesExpression expression_level k found.0 found.1) (sym h.0)
-    (expression-derived expression_level found.0 found.1 h.1)
-
+-- what is read of arguments and targets
 arguments-derives : (room : ℕ) (s : List Symbol)
     → Gets (λ found. DerivesArguments s found.0 found.1) (arguments (expression room) s)
 arguments-derives room s =
@@ -60,11 +40,6 @@ targets-derives room s =
     (all_targets-derived found.0 found.1 h.1.0 h.1.1)
 
 -- the same, where what is left is known
-expression-left : {level : ℕ} {s rest left : List Symbol} {t : ExpressionTree} → rest ≡ left
-    → DerivesExpression level s t rest → DerivesExpression level s t left
-expression-left {level} {s} {rest} {left} {t} e d =
-    subst (λ (k : List Symbol). DerivesExpression level s t k) e d
-
 arguments-left : {s rest left : List Symbol} {t : ArgumentTrees} → rest ≡ left
     → DerivesArguments s t rest → DerivesArguments s t left
 arguments-left {s} {rest} {left} {t} e d = subst (λ (k : List Symbol). DerivesArguments s t k) e d
@@ -72,10 +47,6 @@ arguments-left {s} {rest} {left} {t} e d = subst (λ (k : List Symbol). DerivesA
 targets-left : {s rest left : List Symbol} {t : List ReferenceTree} → rest ≡ left
     → DerivesTargets s t rest → DerivesTargets s t left
 targets-left {s} {rest} {left} {t} e d = subst (λ (k : List Symbol). DerivesTargets s t k) e d
-
-head-left : {s rest left : List Symbol} {t : LoopHeadTree} → rest ≡ left
-    → DerivesHead s t rest → DerivesHead s t left
-head-left {s} {rest} {left} {t} e d = subst (λ (k : List Symbol). DerivesHead s t k) e d
 
 statement-left : {s rest left : List Symbol} {t : StatementTree} → rest ≡ left
     → DerivesStatement s t rest → DerivesStatement s t left
@@ -91,12 +62,6 @@ kind-from : {s other rest : List Symbol} {t : StatementKindTree}
     → DerivesKind other t rest
     → DerivesKind s t rest
 kind-from {s} {other} {rest} {t} e d = subst (λ (k : List Symbol). DerivesKind k t rest) (sym e) d
-
-head-from : {s other rest : List Symbol} {t : LoopHeadTree}
-    → s ≡ other
-    → DerivesHead other t rest
-    → DerivesHead s t rest
-head-from {s} {other} {rest} {t} e d = subst (λ (k : List Symbol). DerivesHead k t rest) (sym e) d
 
 -- what is read of a statement: no ELSE stands after an IF without one
 abbrev pub IsStatementRead : List Symbol → StatementTree × List Symbol → Type 0
@@ -308,61 +273,6 @@ conditional-gets room inner sound place s =
     gets_bind (sound after) λ body hs.
     gets_bind (otherwise-gets inner sound body.1) λ other ho.
     gets_ok (if-read other (expression-left e₁ h) hs.0 hs.1 ho)
-
--- BY and a step, or none
-data StepRead (s : List Symbol) : Option ExpressionTree × List Symbol → Type 0 where
-  no_step : StepRead s (None, s)
-  some_step : {after rest : List Symbol} {t : ExpressionTree}
-      → s ≡ ReservedSymbol words.By ∷ after
-      → DerivesExpression expression_level after t rest
-      → StepRead s (Some t, rest)
-
-step-gets : (room : ℕ) (s : List Symbol) → Gets (StepRead s) (step (expression room) s)
-step-gets room s =
-    gets_if
-    (λ more.
-    gets_bind (expression-derives room (drop 1 s)) λ found h.
-    gets_ok (some_step (at_word-is words.By s more) h))
-    (λ _. gets_ok no_step)
-
--- what is read of the head of a loop
-abbrev IsHeadRead : List Symbol → LoopHeadTree × List Symbol → Type 0
-IsHeadRead s found = DerivesHead s found.0 found.1
-
-head-read : {variable : Identifier} {first last : ExpressionTree} {s symbols to left : List Symbol}
-    → (found : Option ExpressionTree × List Symbol)
-    → s ≡ NameSymbol variable ∷ MarkSymbol marks.EqualSign ∷ symbols
-    → DerivesExpression expression_level symbols first (ReservedSymbol words.To ∷ to)
-    → DerivesExpression expression_level to last left
-    → StepRead left found
-    → IsHeadRead s
-    (CountHead (record { variable = variable; first = first; last = last; step = found.0 }), found.1)
-head-read found e d₁ d₂ no_step = head-from e (count_head d₁ d₂)
-head-read found e d₁ d₂ (some_step e₁ d₃) = head-from e (count_by_head d₁ (expression-left e₁ d₂) d₃)
-
-iteration-gets : (room : ℕ) (s : List Symbol)
-    → Gets (λ found. IsHeadRead s (CountHead found.0, found.1)) (iteration (expression room) s)
-unfolding iteration
-iteration-gets room s =
-    gets_bind (name-gets s) λ its_variable e₁.
-    gets_bind (mark-gets marks.EqualSign its_variable.1) λ after e₂.
-    gets_bind (expression-derives room after) λ its_first h₁.
-    gets_bind (word-gets words.To its_first.1) λ to e₃.
-    gets_bind (expression-derives room to) λ its_last h₂.
-    gets_bind (step-gets room its_last.1) λ its_step h₃.
-    gets_ok (head-read its_step (e₁ ∙ ap (λ k. NameSymbol its_variable.0 ∷ k) e₂) (expression-left e₃ h₁) h₂
-    h₃)
-
-loop_head-gets : (room : ℕ) (s : List Symbol) → Gets (IsHeadRead s) (loop_head (expression room) s)
-unfolding loop_head
-loop_head-gets room s =
-    gets_if
-    (λ e.
-    gets_bind (expression-derives room (drop 1 s)) λ condition h.
-    gets_ok (head-from (at_word-is words.While s e) (while_head h)))
-    λ _.
-    gets_bind (iteration-gets room s) λ found h.
-    gets_ok h
 
 simple_do-gets : (inside : BlockParser) → GetsBlocks inside
     → (place start : Place) (s : List Symbol)

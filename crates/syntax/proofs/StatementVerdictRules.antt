@@ -1,6 +1,6 @@
 -- How reading ends: what holds of all that is read, and whether depth or a name after END is in the way.
-use Rattle.syntax.proofs.Prelude.{◌≡◌, ℕ, suc, max, ◌≤◌, ◌<◌, Bool, true, false, Result, Ok, Err, if◌then◌else◌, refl, ◌∙◌, subst, arith, Cause, TooDeep, OtherEndName, ◌>>=◌}
-use Rattle.syntax.proofs.ReaderLemmas.{bind_ok, bind_at, bind_fails}
+use Rattle.syntax.proofs.Prelude.{◌≡◌, ℕ, suc, max, ◌≤◌, ◌<◌, Bool, true, false, Result, Ok, Err, if◌then◌else◌, refl, ◌∙◌, subst, arith, Cause, TooDeep, OtherEndName, ◌>>=◌, List, ◌∷◌, ReservedWord, Mark, mark, word, name, semicolon, Symbol, MarkSymbol, SemicolonSymbol, ReservedSymbol, NameSymbol}
+use Rattle.syntax.proofs.ReaderLemmas.{bind_ok, bind_at, bind_fails, mark-ok, semicolon-ok, word-ok, name-ok}
 
 -- whatever is read has this property
 pub record Gets {A : Type 0} (P : A → Type 0) (read : Result A Cause) : Type 0 where
@@ -148,3 +148,16 @@ pub verdict_other_name : {A : Type 0} {r : Result A Cause} {a : A} {strict : Boo
 verdict_other_name (fits e l ends) h s wrong = absurd (wrong (ends s))
 verdict_other_name (too_deep e l) h s wrong = absurd (omega (arith, l, h))
 verdict_other_name (other_name e s' not) h s wrong = e
+
+-- what is read of single symbols
+pub mark-gets : (m : Mark) (s : List Symbol) → Gets (λ r. s ≡ MarkSymbol m ∷ r) (mark m s)
+mark-gets m s = record { holds = λ r e. mark-ok m s r e }
+
+pub semicolon-gets : (s : List Symbol) → Gets (λ found. s ≡ SemicolonSymbol found.0 ∷ found.1) (semicolon s)
+semicolon-gets s = record { holds = λ found e. semicolon-ok s found.1 found.0 e }
+
+pub word-gets : (w : ReservedWord) (s : List Symbol) → Gets (λ r. s ≡ ReservedSymbol w ∷ r) (word w s)
+word-gets w s = record { holds = λ r e. word-ok w s r e }
+
+pub name-gets : (s : List Symbol) → Gets (λ found. s ≡ NameSymbol found.0 ∷ found.1) (name s)
+name-gets s = record { holds = λ found e. name-ok s found.1 found.0 e }

@@ -1,16 +1,17 @@
 -- Statements and declarations that are derived are read again, unless depth or a name after END is in the
 -- way.
-use Rattle.syntax.proofs.Prelude.{◌≡◌, ℕ, zero, suc, max, ◌≤◌, ◌<◌, Bool, true, false, not, ◌&&◌, List, [], ◌∷◌, length, Option, Some, None, Ok, Err, if◌then◌else◌, refl, sym, ◌∙◌, ap, subst, arith, bytes_eq-Decides, AllByRecursion, bytes_eq, ReservedWord, Not, Negate, Identifier, Place, DerivesExpression, whole, with_member, DerivesArguments, no_arguments, some_arguments, DerivesTargets, last_target, next_target, DerivesStatement, labelled, unlabelled, DerivesKind, null, assignment_line, call_line, return, return_value_line, halt, goto_line, if_then, if_then_else, simple_do_line, DerivesHead, while_head, count_head, count_by_head, do_loop, do_case, DerivesStatements, no_statement, next_statement, DerivesDeclaration, declare_line, procedure_line, DerivesDeclarations, no_declaration, next_declaration, expression_level, IsNotEmpty, IsElement, ends_in_open_if, is_open_if, IsReference, expression_height, reference_height, arguments_height, targets_height, iteration_height, head_height, statement_height, kind_height, statements_height, declaration_height, declarations_height, IsEndName, StatementEndsMatch, KindEndsMatch, StatementsEndsMatch, DeclarationEndsMatch, DeclarationsEndsMatch, between_commas, optional, name_symbols, element_symbols, heading_symbols, ending_symbols, expression_symbols, reference_symbols, Symbol, ReservedSymbol, MarkSymbol, SemicolonSymbol, NumberConstant, StringConstant, ExpressionTree, ConstantLeaf, ReferenceLeaf, LocationLeaf, ListLeaf, ParenthesizedNode, AssignmentNode, UnaryNode, BinaryNode, ReferenceTree, ReferenceTo, ArgumentTrees, ElementTree, HeadingTree, IterationTree, LoopHeadTree, CountHead, StatementTree, LabelledStatement, StatementKindTree, NullStatement, AssignmentStatement, CallStatement, HaltStatement, GotoStatement, IfStatement, NoElse, ElseStatement, DoStatement, LoopStatement, CaseStatement, ReturnStatement, StatementTrees, NoStatements, MoreStatements, DeclarationTree, DeclareTree, ProcedureTree, DeclarationTrees, NoDeclarations, MoreDeclarations, expression-spelled, arguments-spelled, targets-spelled, expression, reference, arguments, items, many, many_items, Parser, TooDeep, OtherEndName, at_mark, at_word, BlockParser, at_semicolon, labels_before, after_labels, statements_of, beginning_of, declarations_of, ends_declarations, statements, declarations, block, body_of_do, ending, assignment, return_value, conditional, iteration, loop_head, simple_do, case_do, loop_do, do_statement, call, goto, kind_by, statement_by, procedure, declare, declare_or, statement, declaration}
+use Rattle.syntax.proofs.Prelude.{◌≡◌, ℕ, zero, suc, max, ◌≤◌, ◌<◌, Bool, true, false, not, ◌&&◌, List, [], ◌∷◌, length, Option, Some, None, Ok, Err, if◌then◌else◌, refl, sym, ◌∙◌, ap, subst, arith, bytes_eq-Decides, AllByRecursion, bytes_eq, ReservedWord, Not, Negate, Identifier, Place, DerivesExpression, whole, with_member, DerivesArguments, no_arguments, some_arguments, DerivesTargets, last_target, next_target, DerivesStatement, labelled, unlabelled, DerivesKind, null, assignment_line, call_line, return, return_value_line, halt, goto_line, if_then, if_then_else, simple_do_line, DerivesHead, do_loop, do_case, DerivesStatements, no_statement, next_statement, DerivesDeclaration, declare_line, procedure_line, DerivesDeclarations, no_declaration, next_declaration, expression_level, IsNotEmpty, IsElement, ends_in_open_if, is_open_if, IsReference, expression_height, reference_height, arguments_height, targets_height, head_height, statement_height, kind_height, statements_height, declaration_height, declarations_height, IsEndName, StatementEndsMatch, KindEndsMatch, StatementsEndsMatch, DeclarationEndsMatch, DeclarationsEndsMatch, between_commas, optional, name_symbols, element_symbols, heading_symbols, ending_symbols, expression_symbols, reference_symbols, Symbol, ReservedSymbol, MarkSymbol, SemicolonSymbol, NumberConstant, StringConstant, ExpressionTree, ConstantLeaf, ReferenceLeaf, LocationLeaf, ListLeaf, ParenthesizedNode, AssignmentNode, UnaryNode, BinaryNode, ReferenceTree, ReferenceTo, ArgumentTrees, ElementTree, HeadingTree, LoopHeadTree, StatementTree, LabelledStatement, StatementKindTree, NullStatement, AssignmentStatement, CallStatement, HaltStatement, GotoStatement, IfStatement, NoElse, ElseStatement, DoStatement, LoopStatement, CaseStatement, ReturnStatement, StatementTrees, NoStatements, MoreStatements, DeclarationTree, DeclareTree, ProcedureTree, DeclarationTrees, NoDeclarations, MoreDeclarations, expression-spelled, arguments-spelled, targets-spelled, expression, reference, arguments, items, many, many_items, Parser, TooDeep, OtherEndName, at_mark, at_word, BlockParser, at_semicolon, labels_before, after_labels, statements_of, beginning_of, declarations_of, ends_declarations, statements, declarations, block, body_of_do, ending, assignment, return_value, conditional, simple_do, case_do, loop_do, do_statement, call, goto, kind_by, statement_by, procedure, declare, declare_or, statement, declaration}
 use Rattle.words.specs.declared.vocabulary.Mark.TheVariants as marks
 use Rattle.words.specs.declared.vocabulary.ReservedWord.TheVariants as words
 use Rattle.syntax.specs.declared.statements.Beginning.TheVariants as beginnings
 use Rattle.syntax.proofs.DeclarationLaws.{elements-reads, heading-reads}
-use Rattle.syntax.proofs.ExpressionLaws.{EndsReference, EndsExpression, reference-long}
-use Rattle.syntax.proofs.ExpressionVerdicts.{expression-verdict, reference-verdict, arguments-verdict}
+use Rattle.syntax.proofs.ExpressionLaws.{EndsReference, reference-long}
+use Rattle.syntax.proofs.ExpressionVerdicts.{reference-verdict, arguments-verdict, derived_expression}
 use Rattle.syntax.proofs.ReaderLemmas.{if_true, if_false}
 use Rattle.syntax.proofs.StatementLengths.{statement-shorter, declaration-shorter}
 use Rattle.syntax.proofs.StatementVerdictLists.{greatest, items-verdict}
 use Rattle.syntax.proofs.StatementVerdictRules.{Verdict, fits, too_deep, other_name, verdict_ok, verdict_bind, verdict_then, verdict_last, verdict_same, verdict_as, verdict_inside}
+use Rattle.syntax.proofs.Heads.{head-verdict, does_loop}
 
 -- how statements end, where no ELSE stands after an IF without one, and how declarations end
 abbrev pub HasStatementVerdicts : Bool → ℕ → Parser StatementTree → Type 0
@@ -219,16 +220,7 @@ block-verdict strict room declared inner sound also s middle d b r ds dss =
     (body_is_no_declaration dss))
     (verdict_last _ (statements-verdict strict room inner also middle b r dss) refl)
 
--- expressions, arguments and targets that are derived
-derived_expression : (strict : Bool) (room : ℕ) {s r : List Symbol} {t : ExpressionTree}
-    → DerivesExpression expression_level s t r
-    → EndsExpression r
-    → Verdict (expression room expression_level s) (t, r) strict room (expression_height t) (Unit {0})
-derived_expression strict room {s} {r} {t} d ends =
-    let h = expression-spelled d in
-    verdict_same (ap (expression room expression_level) h.0)
-    (expression-verdict strict room expression_level t r h.1 ends)
-
+-- arguments and targets that are derived
 derived_arguments : (strict : Bool) (room : ℕ) {s r : List Symbol} {t : ArgumentTrees}
     → DerivesArguments s t r
     → at_mark marks.LeftParenthesis r ≡ false
@@ -380,36 +372,6 @@ case_do-verdict strict room inner sound place start end choice body s middle r d
     (verdict_last _ (body_of_do-verdict strict room inner sound body end middle r d₂) refl))
     refl (λ both. both.1) (λ ends. (tt, ends))
 
--- the head of an iterative DO, and of a loop
-iteration-verdict : (strict : Bool) (room : ℕ) (counted : IterationTree) (start : Place) (s r : List Symbol)
-    → DerivesHead s (CountHead counted) (SemicolonSymbol start ∷ r)
-    → Verdict (iteration (expression room) s) (counted, SemicolonSymbol start ∷ r) strict room
-    (iteration_height counted) (Unit {0})
-unfolding iteration
-iteration-verdict strict room counted start s r (count_head d₁ d₂) =
-    verdict_as
-    (verdict_bind _ (derived_expression strict room d₁ (refl, refl, refl))
-    (verdict_bind _ (derived_expression strict room d₂ (refl, refl, refl)) verdict_ok))
-    refl (λ _. tt) (λ _. (tt, (tt, tt)))
-iteration-verdict strict room counted start s r (count_by_head d₁ d₂ d₃) =
-    verdict_as
-    (verdict_bind _ (derived_expression strict room d₁ (refl, refl, refl))
-    (verdict_bind _ (derived_expression strict room d₂ (refl, refl, refl))
-    (verdict_last _ (verdict_last _ (derived_expression strict room d₃ (refl, refl, refl)) refl) refl)))
-    refl (λ _. tt) (λ _. (tt, (tt, tt)))
-
-head-verdict : (strict : Bool) (room : ℕ) (head : LoopHeadTree) (start : Place) (s r : List Symbol)
-    → DerivesHead s head (SemicolonSymbol start ∷ r)
-    → Verdict (loop_head (expression room) s) (head, SemicolonSymbol start ∷ r) strict room
-    (head_height head) (Unit {0})
-unfolding loop_head
-head-verdict strict room head start s r (while_head d) =
-    verdict_last _ (derived_expression strict room d (refl, refl, refl)) refl
-head-verdict strict room head start s r (count_head d₁ d₂) =
-    verdict_last _ (iteration-verdict strict room _ start _ r (count_head d₁ d₂)) refl
-head-verdict strict room head start s r (count_by_head d₁ d₂ d₃) =
-    verdict_last _ (iteration-verdict strict room _ start _ r (count_by_head d₁ d₂ d₃)) refl
-
 loop_do-verdict : (strict : Bool) (room : ℕ) (inner : Parser StatementTree)
     → HasStatementVerdicts strict room inner
     → (place start end : Place) (head : LoopHeadTree) (body : StatementTrees) (s middle r : List Symbol)
@@ -423,16 +385,6 @@ loop_do-verdict strict room inner sound place start end head body s middle r d�
     (verdict_bind _ (head-verdict strict room head start s middle d₁)
     (verdict_last _ (body_of_do-verdict strict room inner sound body end middle r d₂) refl))
     refl (λ both. both.1) (λ ends. (tt, ends))
-
--- the head of a loop begins neither with a semicolon nor with CASE
-does_loop : (room : ℕ) (inner : Parser StatementTree) (inside : BlockParser) (place : Place)
-    {s r : List Symbol} {head : LoopHeadTree}
-    → DerivesHead s head r
-    → do_statement (expression room) inner inside place s ≡ loop_do (expression room) inner place s
-unfolding do_statement
-does_loop room inner inside place (while_head d) = refl
-does_loop room inner inside place (count_head d₁ d₂) = refl
-does_loop room inner inside place (count_by_head d₁ d₂ d₃) = refl
 
 -- a statement without labels, by its first symbol; what it holds is one level deeper
 kind_by-verdict : (strict : Bool) (room : ℕ) (inner : Parser StatementTree) (inside : BlockParser)

@@ -1,13 +1,69 @@
 -- Lowering a statement adds nodes that represent it, and keeps the nodes before.
-use Rattle.treecode.proofs.Prelude.{◌≡◌, ℕ, suc, ◌+◌, ◌<◌, min, max, Bool, true, false, ◌||◌, List, [], ◌∷◌, ◌++◌, length, Option, Some, None, slice_get, unwrap_or, refl, sym, ap, ◌∙◌, subst, arith, Any, append_assoc, append-nil, height_of, height_of_else, height_of_head, height_of_list, height_of_optional, height_of_statement, height_of_statements, height_of_targets, IsAmongLabels, JumpsStay, JumpsStayInElse, JumpsStayInList, JumpsStayInStatements, LabelsOf, ListStands, ListsStand, ListsStandInElse, labels_of_list, TypedExpression, TypedTarget, TypedArguments, TypedHead, TypedStatement, LabelStatement, NullStatement, AssignmentStatement, CallStatement, MoveStatement, ReturnStatement, HaltStatement, GotoStatement, IfStatement, DoStatement, LoopStatement, CaseStatement, TypedElse, NoElse, ElseStatement, TypedStatements, NoStatements, MoreStatements, TypedList, ListOf, Storage, ExpressionNumber, Home, LoopHead, Statement, StatementNumber, AddedList, AddedStatement, IsStatement, IsStatementNode, IsStatementForm, IsLabel, IsNull, IsAssignment, IsCall, IsMove, IsReturn, IsHalt, IsGoto, IsIf, IsDo, IsLoop, IsCase, IsElse, IsNoElse, IsSomeElse, AreStatements, AreNoStatements, AreMoreStatements, IsList, IsListOf, labels_numbered, labels_numbered_in_else, labels_numbered_in_list, labels_numbered_in_statements, numbers_from, reaches_end, reaches_end_of_else, reaches_end_of_list, reaches_end_of_statements, Nodes, KeepTraits, height_at, Holds, Items, Walk, assigned_in, call_in, either_ends, else_in, height_of_move, items_after, items_in, head_in, label_in, list_in, loop_ends, moved_in, noted, number_of_added, numbered, optional_in, put_case, put_do, put_if, put_list, put_loop, put_statement, returned_in, statement_in, targets_in, value_in, got_first}
+use Rattle.treecode.proofs.Prelude.{◌≡◌, ℕ, suc, ◌+◌, ◌<◌, ◌≤◌, min, max, Bool, true, false, ◌||◌, List, [], ◌∷◌, ◌++◌, length, Option, Some, None, slice_get, unwrap_or, refl, sym, ap, ◌∙◌, subst, arith, Any, append_assoc, append-nil, height_of, height_of_else, height_of_head, height_of_list, height_of_optional, height_of_statement, height_of_statements, height_of_targets, IsAmongLabels, JumpsStay, JumpsStayInElse, JumpsStayInList, JumpsStayInStatements, LabelsOf, ListStands, ListsStand, ListsStandInElse, labels_of_list, TypedExpression, TypedTarget, TypedArguments, TypedHead, TypedStatement, LabelStatement, NullStatement, AssignmentStatement, CallStatement, MoveStatement, ReturnStatement, HaltStatement, GotoStatement, IfStatement, DoStatement, LoopStatement, CaseStatement, TypedElse, NoElse, ElseStatement, TypedStatements, NoStatements, MoreStatements, TypedList, ListOf, Storage, ExpressionNumber, Range, Home, LoopHead, Statement, StatementNumber, AddedList, AddedStatement, IsStatement, IsStatementNode, IsStatementForm, IsLabel, IsNull, IsAssignment, IsCall, IsMove, IsReturn, IsHalt, IsGoto, IsIf, IsDo, IsLoop, IsCase, IsExpressionIn, IsElse, IsNoElse, IsSomeElse, AreStatements, AreNoStatements, AreMoreStatements, IsList, IsListOf, labels_numbered, labels_numbered_in_else, labels_numbered_in_list, labels_numbered_in_statements, numbers_from, reaches_end, reaches_end_of_else, reaches_end_of_list, reaches_end_of_statements, Nodes, KeepTraits, Grows, height_at, Holds, Items, Walk, assigned_in, call_in, either_ends, else_in, height_of_move, items_after, items_in, head_in, label_in, list_in, loop_ends, moved_in, noted, number_of_added, numbered, optional_in, put_case, put_do, put_if, put_list, put_loop, put_statement, returned_in, statement_in, targets_in, value_in, got_first}
 use Rattle.treecode.specs.declared.statement.Statement.TheVariants as statements
 use Rattle.treecode.proofs.AddedExpressions.{AreSound, AsExpression, Leads, found_after, leads_nowhere, leads_on, one_more, sound_after}
 use Rattle.treecode.proofs.AddedValues.{AsOptional, AsTargets, Noted, Steps, call_added, optional_added, same_steps, steps_nowhere, steps_on, targets_added, value_added}
-use Rattle.treecode.proofs.Grown.{expression_in_stays, head_stays, holds_with_more, statement_form_stays, statement_stays}
-use Rattle.treecode.proofs.Heads.{AsHead, ends_as_tree, head_added}
+use Rattle.treecode.proofs.Grown.{arguments_stay, expression_in_stays, holds_with_more, optional_stays, targets_stay}
+use Rattle.treecode.proofs.Heads.{AsHead, ends_as_tree, head_added, head_stays}
 use Rattle.treecode.proofs.KeptValues.{height_kept}
 use Rattle.treecode.proofs.LabelNumbers.{AreNumbered, HasNumber, Knows, LabelIsAround, StandAround, cases_stand, knows_after, knows_list, labels_numbered_from, labels_stand, no_label_around}
 use Rattle.treecode.proofs.Maxima.{nothing_higher, two_heights}
+
+module _ (before after : Nodes) (storage : Storage) (grows : Grows before after) (labels : List ℕ) where
+  value_stays : {number : ExpressionNumber} {tree : TypedExpression}
+      → IsExpressionIn before storage number tree → IsExpressionIn after storage number tree
+  value_stays is = expression_in_stays before after storage grows is
+
+  mutual
+    -- a statement remains the same tree
+    pub statement_stays : {bound number : ℕ} {tree : TypedStatement} (greater : ℕ) → bound ≤ greater
+        → IsStatement before storage labels bound number tree
+        → IsStatement after storage labels greater number tree
+    statement_stays greater up (IsStatementNode {number = number} {statement = statement} below at form) =
+        IsStatementNode (omega arith) (grows.statements number statement at)
+        (statement_form_stays number (omega arith) form)
+
+    pub statement_form_stays : {bound : ℕ} {form : Statement} {tree : TypedStatement} (greater : ℕ)
+        → bound ≤ greater
+        → IsStatementForm before storage labels bound form tree
+        → IsStatementForm after storage labels greater form tree
+    statement_form_stays greater up (IsLabel at) = IsLabel at
+    statement_form_stays greater up IsNull = IsNull
+    statement_form_stays greater up (IsAssignment targets value) =
+        IsAssignment (targets_stay before after storage grows targets) (value_stays value)
+    statement_form_stays greater up (IsCall given) =
+        IsCall (arguments_stay before after storage grows (length after.expressions) grows.count given)
+    statement_form_stays greater up (IsMove count source destination) =
+        IsMove (value_stays count) (value_stays source) (value_stays destination)
+    statement_form_stays greater up (IsReturn value) = IsReturn (optional_stays before after storage grows value)
+    statement_form_stays greater up IsHalt = IsHalt
+    statement_form_stays greater up (IsGoto at) = IsGoto at
+    statement_form_stays greater up (IsIf condition body otherwise) =
+        IsIf (value_stays condition) (statement_stays greater up body)
+        (else_stays greater up otherwise)
+    statement_form_stays greater up (IsDo list) = IsDo (list_stays greater up list)
+    statement_form_stays greater up (IsLoop head list) =
+        IsLoop (head_stays before after storage grows head) (list_stays greater up list)
+    statement_form_stays greater up (IsCase choice statements) =
+        IsCase (value_stays choice) (statements_stay greater up statements)
+
+    pub else_stays : {bound : ℕ} {number : Option StatementNumber} {tree : TypedElse} (greater : ℕ)
+        → bound ≤ greater
+        → IsElse before storage labels bound number tree → IsElse after storage labels greater number tree
+    else_stays greater up IsNoElse = IsNoElse
+    else_stays greater up (IsSomeElse statement) = IsSomeElse (statement_stays greater up statement)
+
+    pub statements_stay : {bound first count : ℕ} {trees : TypedStatements} (greater : ℕ) → bound ≤ greater
+        → AreStatements before storage labels bound first count trees
+        → AreStatements after storage labels greater first count trees
+    statements_stay greater up AreNoStatements = AreNoStatements
+    statements_stay greater up (AreMoreStatements {first = first} {number = number} at statement others) =
+        AreMoreStatements (grows.lists first number at) (statement_stays greater up statement)
+        (statements_stay greater up others)
+
+    pub list_stays : {bound : ℕ} {range : Range} {list : TypedList} (greater : ℕ) → bound ≤ greater
+        → IsList before storage labels bound range list → IsList after storage labels greater range list
+    list_stays greater up (IsListOf statements) = IsListOf (statements_stay greater up statements)
 
 -- the numbers of labels that are known stay known
 knows_steps : {walk after : Walk} {height : ℕ} {known : List ℕ} {around : List LabelsOf}

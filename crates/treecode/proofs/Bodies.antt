@@ -2,8 +2,8 @@
 use Rattle.treecode.proofs.Prelude.{◌≡◌, ◌⊎◌, ℕ, zero, suc, ◌+◌, ◌<◌, ◌≤◌, min, max, true, List, [], ◌∷◌, length, map, set, get_or, Option, Some, None, option_map, slice_get, inl, inr, refl, sym, ap, ◌∙◌, subst, arith, slice_set, option_map_or, get_or_from_slice_get, slice_get-get_or, slice_get-map, slice_get_within, Procedure, procedure_view, height_of_list, BodyIsSound, TypedProcedure, Storage, Home, TreeProcedure, AddedList, parameters_of, HasBody, labels_numbered_in_list, reaches_end_of_list, Nodes, Outside, AreComplete, BodiesAreSound, HasHeading, IsBody, MainIsComplete, SameHeading, completed, with_body, AreSound, Leads, Walk, begun, list_in, length-set, same_Some}
 use Rattle.treecode.specs.declared.procedures.Body.{Body}
 use Rattle.treecode.proofs.AddedExpressions.{leads_nowhere, leads_on}
-use Rattle.treecode.proofs.AddedStatements.{ListIs, list_added}
-use Rattle.treecode.proofs.Grown.{list_stays, nothing_found}
+use Rattle.treecode.proofs.AddedStatements.{ListIs, list_added, list_stays}
+use Rattle.treecode.proofs.Grown.{nothing_found}
 use Rattle.treecode.proofs.LabelNumbers.{Knows}
 
 from_none : (count height : ℕ) → count ≡ max 0 (min height 65535) → count ≡ min height 65535

@@ -1,5 +1,5 @@
 -- Nodes are kept when others are added after them.
-use Rattle.treecode.proofs.Prelude.{◌≡◌, ℕ, zero, suc, ◌≤◌, List, [], ◌∷◌, ◌++◌, length, Option, Some, None, subst, arith, TypedExpression, TypedReference, Subscript, TypedTarget, TypedArguments, TypedStatement, TypedElse, TypedStatements, TypedList, TypedIteration, TypedHead, Storage, ExpressionForm, ExpressionNumber, Range, Reference, IndexNode, Target, Iteration, LoopHead, Statement, StatementNumber, IsExpression, IsNode, IsForm, IsNumber, IsValue, IsLocation, IsConstantList, IsConversion, IsEmbedded, IsUnary, IsBinary, IsCallOf, IsFunction, IsShift, IsInput, IsReference, IsPart, IsSubscript, IsAbsent, IsIndex, IsTarget, IsStored, IsSent, AreArguments, AreNone, AreMore, IsExpressionIn, IsOptional, IsNoValue, IsSomeValue, AreTargets, NoTargets, MoreTargets, IsIteration, IsHead, IsWhileHead, IsCountHead, IsStatement, IsStatementNode, IsStatementForm, IsLabel, IsNull, IsAssignment, IsCall, IsMove, IsReturn, IsHalt, IsGoto, IsIf, IsDo, IsLoop, IsCase, IsElse, IsNoElse, IsSomeElse, AreStatements, AreNoStatements, AreMoreStatements, IsList, IsListOf, Nodes, Grows, Holds}
+use Rattle.treecode.proofs.Prelude.{◌≡◌, ℕ, zero, suc, ◌≤◌, List, [], ◌∷◌, ◌++◌, length, Option, Some, None, subst, arith, TypedExpression, TypedReference, Subscript, TypedTarget, TypedArguments, TypedIteration, Storage, ExpressionForm, ExpressionNumber, Reference, IndexNode, Target, Iteration, IsExpression, IsNode, IsForm, IsNumber, IsValue, IsLocation, IsConstantList, IsConversion, IsEmbedded, IsUnary, IsBinary, IsCallOf, IsFunction, IsShift, IsInput, IsReference, IsPart, IsSubscript, IsAbsent, IsIndex, IsTarget, IsStored, IsSent, AreArguments, AreNone, AreMore, IsExpressionIn, IsOptional, IsNoValue, IsSomeValue, AreTargets, NoTargets, MoreTargets, IsIteration, Nodes, Grows, Holds}
 
 abbrev IsNothing : {A : Type 0} → Option A → Type 0
 IsNothing None = Unit {0}
@@ -93,59 +93,3 @@ module _ (before after : Nodes) (storage : Storage) (grows : Grows before after)
     last = expression_in_stays is.last;
     step = optional_stays is.step;
   }
-
-  pub head_stays : {head : LoopHead} {tree : TypedHead} → IsHead before storage head tree
-      → IsHead after storage head tree
-  head_stays (IsWhileHead condition) = IsWhileHead (expression_in_stays condition)
-  head_stays (IsCountHead iteration) = IsCountHead (iteration_stays iteration)
-
-  module _ (labels : List ℕ) where
-    mutual
-      -- a statement remains the same tree
-      pub statement_stays : {bound number : ℕ} {tree : TypedStatement} (greater : ℕ) → bound ≤ greater
-          → IsStatement before storage labels bound number tree
-          → IsStatement after storage labels greater number tree
-      statement_stays greater up (IsStatementNode {number = number} {statement = statement} below at form) =
-          IsStatementNode (omega arith) (grows.statements number statement at)
-          (statement_form_stays number (omega arith) form)
-
-      pub statement_form_stays : {bound : ℕ} {form : Statement} {tree : TypedStatement} (greater : ℕ)
-          → bound ≤ greater
-          → IsStatementForm before storage labels bound form tree
-          → IsStatementForm after storage labels greater form tree
-      statement_form_stays greater up (IsLabel at) = IsLabel at
-      statement_form_stays greater up IsNull = IsNull
-      statement_form_stays greater up (IsAssignment targets value) =
-          IsAssignment (targets_stay targets) (expression_in_stays value)
-      statement_form_stays greater up (IsCall given) =
-          IsCall (arguments_stay (length after.expressions) grows.count given)
-      statement_form_stays greater up (IsMove count source destination) =
-          IsMove (expression_in_stays count) (expression_in_stays source) (expression_in_stays destination)
-      statement_form_stays greater up (IsReturn value) = IsReturn (optional_stays value)
-      statement_form_stays greater up IsHalt = IsHalt
-      statement_form_stays greater up (IsGoto at) = IsGoto at
-      statement_form_stays greater up (IsIf condition body otherwise) =
-          IsIf (expression_in_stays condition) (statement_stays greater up body)
-          (else_stays greater up otherwise)
-      statement_form_stays greater up (IsDo list) = IsDo (list_stays greater up list)
-      statement_form_stays greater up (IsLoop head list) = IsLoop (head_stays head) (list_stays greater up list)
-      statement_form_stays greater up (IsCase choice statements) =
-          IsCase (expression_in_stays choice) (statements_stay greater up statements)
-
-      pub else_stays : {bound : ℕ} {number : Option StatementNumber} {tree : TypedElse} (greater : ℕ)
-          → bound ≤ greater
-          → IsElse before storage labels bound number tree → IsElse after storage labels greater number tree
-      else_stays greater up IsNoElse = IsNoElse
-      else_stays greater up (IsSomeElse statement) = IsSomeElse (statement_stays greater up statement)
-
-      pub statements_stay : {bound first count : ℕ} {trees : TypedStatements} (greater : ℕ) → bound ≤ greater
-          → AreStatements before storage labels bound first count trees
-          → AreStatements after storage labels greater first count trees
-      statements_stay greater up AreNoStatements = AreNoStatements
-      statements_stay greater up (AreMoreStatements {first = first} {number = number} at statement others) =
-          AreMoreStatements (grows.lists first number at) (statement_stays greater up statement)
-          (statements_stay greater up others)
-
-      pub list_stays : {bound : ℕ} {range : Range} {list : TypedList} (greater : ℕ) → bound ≤ greater
-          → IsList before storage labels bound range list → IsList after storage labels greater range list
-      list_stays greater up (IsListOf statements) = IsListOf (statements_stay greater up statements)

@@ -1,9 +1,10 @@
--- The heads of loops: what is true of each, and the nodes that lowering adds for them.
-use Rattle.treecode.proofs.Prelude.{◌≡◌, List, Option, refl, ap, ◌∙◌, height_of, height_of_head, height_of_iteration, TypedHead, Storage, ExpressionNumber, Home, Place, Iteration, LoopHead, known_number, known_value, IsHead, IsWhileHead, IsCountHead, ends_by, head_ends, Nodes, Walk, head_in, iteration_in, loop_ends, value_in}
+-- The heads of loops: what is true of each, the nodes that lowering adds for them, and that these are kept.
+use Rattle.treecode.proofs.Prelude.{◌≡◌, List, Option, refl, ap, ◌∙◌, height_of, height_of_head, height_of_iteration, TypedHead, Storage, ExpressionNumber, Home, Place, Iteration, LoopHead, known_number, known_value, IsHead, IsWhileHead, IsCountHead, ends_by, head_ends, Grows, Nodes, Walk, head_in, iteration_in, loop_ends, value_in}
 use Rattle.typed_trees.specs.TypedTrees.{WhileHead, CountHead}
 use Rattle.treecode.specs.declared.statement.LoopHead.TheVariants as heads
 use Rattle.treecode.proofs.AddedExpressions.{AreSound, AsExpression}
 use Rattle.treecode.proofs.AddedValues.{AsIteration, Noted, iteration_added, value_added}
+use Rattle.treecode.proofs.Grown.{expression_in_stays, iteration_stays}
 use Rattle.treecode.proofs.KeptValues.{known_kept}
 
 -- what is true of each condition and of each iteration is true of each head
@@ -14,6 +15,14 @@ pub each_head : (P : LoopHead → Type 0)
     → P head
 each_head P conditions iterations (heads.While condition) = conditions condition
 each_head P conditions iterations (heads.Count iteration) = iterations iteration
+
+-- a head remains the same tree
+pub head_stays : (before after : Nodes) (storage : Storage) → Grows before after
+    → {head : LoopHead} {tree : TypedHead} → IsHead before storage head tree → IsHead after storage head tree
+head_stays before after storage grows (IsWhileHead condition) =
+    IsWhileHead (expression_in_stays before after storage grows condition)
+head_stays before after storage grows (IsCountHead iteration) =
+    IsCountHead (iteration_stays before after storage grows iteration)
 
 module _ (storage : Storage) where
   abbrev pub AsHead : TypedHead → Nodes → LoopHead → Type 0

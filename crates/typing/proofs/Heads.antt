@@ -1,5 +1,5 @@
 -- The head of a loop: what it gives, and that it keeps what each of its values keeps.
-use Rattle.typing.proofs.Prelude.{Option, Some, None, Ok, Err, refl, IfOk, ExpressionTree, IterationTree, LoopHeadTree, TypedHead, Checked, bound, Progress, value, counter_bound, step, iteration, loop_head}
+use Rattle.typing.proofs.Prelude.{Option, Some, None, Ok, Err, refl, IfOk, ExpressionTree, IterationTree, LoopHeadTree, TypedHead, Checked, bound, Progress, value, counter_bound, step, iteration, loop_head, List, Identifier, Fault, TypedExpression, TypedIteration, ◌>>=◌, names_in_expression, names_in_iteration, names_in_head, members_in_expression, members_in_iteration, members_in_head}
 use Rattle.trees.specs.Trees.{WhileHead, CountHead}
 use Rattle.typed_trees.specs.TypedTrees.{WhileHead as TypedWhile, CountHead as TypedCount}
 use Rattle.typing.proofs.Kept.{Gives, gives_ok, gives_fault, in_turn, gives_after, then_more}
@@ -15,6 +15,19 @@ head_gives Says progress of_condition of_values (WhileHead condition) =
     in_turn (of_condition condition) λ tested is. gives_ok is
 head_gives Says progress of_condition of_values (CountHead counting) =
     in_turn (of_values counting) λ counted is. gives_ok is
+
+-- what is said of it by the names and the members in it
+pub head_says : (Says : List Identifier → List Fault → Checked (TypedHead × Progress) → Type 0)
+    (progress : Progress)
+    → ((tree : ExpressionTree) (make : TypedExpression → TypedHead)
+    → Says (names_in_expression tree) (members_in_expression tree)
+    (value tree progress >>= λ found. Ok (make found.0, found.1)))
+    → ((tree : IterationTree) (make : TypedIteration → TypedHead)
+    → Says (names_in_iteration tree) (members_in_iteration tree)
+    (iteration tree progress >>= λ found. Ok (make found.0, found.1)))
+    → (head : LoopHeadTree) → Says (names_in_head head) (members_in_head head) (loop_head head progress)
+head_says Says progress of_condition of_values (WhileHead condition) = of_condition condition TypedWhile
+head_says Says progress of_condition of_values (CountHead counting) = of_values counting TypedCount
 
 -- a predicate of places
 module _ (Is : Progress → Type 0)

@@ -6,6 +6,8 @@ use Rattle.typed_trees.specs.declared.parts.Measure.TheVariants as measures
 use Rattle.typing_rules.proofs.Judged.{fault_of, then_ok, then_fault, passed, failed, got, got_none}
 use Rattle.typing_rules.proofs.ReferencesJudged.{given_name}
 use Rattle.typing_rules.proofs.ExpressionsTyped.{port_is, shift_is, measure_function_is, then_member_ok, measured_is, measure_is, one_fits, typing_is, values_is, subscript_is, part_is, target_is}
+use Rattle.typing.specs.Blocks.{Progress}
+use Rattle.typing.specs.internal.StatementChecks.{value}
 
 pub is_nothing : {A : Type 0} (option : Option A) → ((a : A) → ¬ (option ≡ Some a)) → option ≡ None
 is_nothing None none = refl
@@ -394,3 +396,9 @@ mutual
       let s = subscript_is typing in
       then_ok _ (passed _ _ s.0) (then_ok _ s.2 (then_member_ok _ there
       (subscripts_refused known extent place.member.dimension member middle its _ (subscript_fault_is is))))
+
+-- in a statement
+pub value_fault : {tree : ExpressionTree} {fault : Fault} (progress : Progress)
+    → ExpressionFault progress.known progress.constants tree fault
+    → value tree progress ≡ Err fault
+value_fault progress is = then_fault _ (fault_is is)

@@ -4,6 +4,9 @@ use Rattle.typed_trees.specs.declared.parts.Measure.TheVariants as measures
 use Rattle.typed_trees.specs.declared.parts.ShiftFunction.TheVariants as shifts
 use Rattle.typing_rules.proofs.Judged.{then_ok, passed, got}
 use Rattle.typing_rules.proofs.ReferencesJudged.{given_name}
+use Rattle.typing.specs.Blocks.{Progress}
+use Rattle.typing.specs.Statements.{with_constants}
+use Rattle.typing.specs.internal.StatementChecks.{value}
 
 -- constants and ports
 pub number_is : {leaf : ConstantTree} {number : ℕ} → IsNumber leaf number
@@ -188,3 +191,9 @@ pub one_typing : {known : Known} {before : Constants} {tree : ExpressionTree} {o
 one_typing {one = one} {after = after} first second =
     let same = sym (typing_is first) ∙ typing_is second in
     (ap (λ it. (given_or {A = TypedExpression × Constants} (one, after) it).0) same, ap (λ it. (given_or {A = TypedExpression × Constants} (one, after) it).1) same)
+
+-- in a statement
+pub value_is : {tree : ExpressionTree} {typed : TypedExpression} {after : Constants} (progress : Progress)
+    → ExpressionTyping progress.known progress.constants tree typed after
+    → value tree progress ≡ Ok (typed, with_constants after progress)
+value_is progress is = then_ok _ (typing_is is) refl

@@ -8,6 +8,7 @@ pub mod FillingTyped
 pub mod ItemsTyped
 pub mod ProceduresTyped
 pub mod StatementsJudged
+pub mod Heads
 pub mod ModulesJudged
 pub mod ModulesTyped
 pub mod ModulesRefused

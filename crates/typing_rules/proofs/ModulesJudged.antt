@@ -16,7 +16,8 @@ use Rattle.typing_rules.specs.ModuleFaults.{StatementFault, in_targets, in_sourc
 use Rattle.typing_rules.proofs.Judged.{Judged, judged_ok, judged_fault, then_judged, judged_more, then_found}
 use Rattle.typing_rules.proofs.ItemsTyped.{elements_judged}
 use Rattle.typing_rules.proofs.ProceduresTyped.{heading_judged, objects_judged, body_judged}
-use Rattle.typing_rules.proofs.StatementsJudged.{then_reached, value_judged, targets_judged, head_judged, labels_judged, call_judged, return_judged, goto_judged}
+use Rattle.typing_rules.proofs.StatementsJudged.{then_reached, value_judged, targets_judged, labels_judged, call_judged, return_judged, goto_judged}
+use Rattle.typing_rules.proofs.Heads.{head_judged}
 
 list_judged : (block : Block) (trees : StatementTrees) (progress : Progress)
     → Judged (λ found. StatementsTyping block progress.known.here.labels

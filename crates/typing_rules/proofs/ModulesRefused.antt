@@ -1,110 +1,30 @@
 -- A fault of a statement, a declaration or a module by the rules is the one that the typing gives. So there
 -- is at most one, and none where there is a typing.
-use Rattle.typing_rules.proofs.Prelude.{◌≡◌, ◌∙◌, ℕ, Bool, true, false, not, List, Option, Some, None, Err, refl, sym, ap, subst, slice_get, eq-eqb, ne_eqb, Identifier, Place, ExpressionTree, ReferenceTree, ArgumentTrees, Binding, Declared, BuiltInName, UnknownLabel, BuiltIn, Object, Procedure, Label, Definition, TypedProcedure, Constants, CallOfNoProcedure, NoVariable, Cause, Fault, Checked, ◌>>=◌, require, arguments, Known, scalar_of, at_name, ExpressionFault}
-use Rattle.std.specs.Prelude.{◌&&◌, is_none}
-use Rattle.trees.specs.Trees.{IterationTree, LoopHeadTree, StatementTree, StatementKindTree, ElseTree, StatementTrees, DeclarationTree, DeclarationTrees, ModuleTree}
+use Rattle.typing_rules.proofs.Prelude.{◌≡◌, ◌∙◌, ℕ, not, List, Option, Some, None, Err, refl, sym, ap, subst, slice_get, eq-eqb, ne_eqb, Identifier, Place, ExpressionTree, ReferenceTree, ArgumentTrees, Binding, Declared, BuiltInName, UnknownLabel, BuiltIn, Object, Procedure, Label, Definition, TypedProcedure, Constants, CallOfNoProcedure, Fault, arguments, Known, at_name}
+use Rattle.std.specs.Prelude.{is_none}
+use Rattle.trees.specs.Trees.{StatementTree, StatementKindTree, ElseTree, StatementTrees, DeclarationTree, DeclarationTrees, ModuleTree}
 use Rattle.names.specs.declared.entity.BuiltIn.TheVariants as built_ins
 use Rattle.names.specs.Environment.{Here}
 use Rattle.typing.specs.declared.fault.Cause.TheVariants.{ReturnOutside, UnknownLabel as NoLabel}
 use Rattle.typing.specs.Blocks.{Owner, TheModule, Block, Progress}
 use Rattle.typing.specs.Statements.{with_constants}
-use Rattle.typing.specs.internal.StatementChecks.{value, destinations, call_bound, return_from, goto_bound, counter_bound, step, iteration, loop_head, declare_labels, list_of}
+use Rattle.typing.specs.internal.StatementChecks.{destinations, call_bound, return_from, goto_bound, declare_labels, list_of}
 use Rattle.typing.specs.internal.Typing.{kind, alone, else_part, cases, statements, declaration, declarations, typing_of}
 use Rattle.typing_rules.specs.ModuleFaults.{StatementFault, in_targets, in_source, call_of_unknown, call_of_no_procedure, call_of_typed, call_with_wrong_count, in_argument_of_call, move_with_wrong_count, in_argument_of_move, return_outside, value_for_no_type, no_value_for_type, in_returned_value, unknown_label, in_condition, in_then, in_else, in_declarations_of_do, in_do, in_head, in_loop, in_choice, in_cases, AloneFault, misplaced_label, in_alone, ElseFault, after_else, CasesFault, in_first_case, in_other_cases, StatementsFault, in_labels, in_first_statement, in_other_statements, ListFault, in_list, DeclarationFault, in_declare, in_heading, in_own_declarations, in_parameters, with_body, in_body, DeclarationsFault, in_first_declaration, in_other_declarations, ModuleFault, in_declarations, in_statements}
-use Rattle.typing_rules.specs.StatementFaults.{TargetsFault, in_first_target, in_other_targets, CounterFault, unknown_counter, counter_of_no_variable, counter_with_data, counter_in_array, based_counter, counter_with_members, StepFault, in_step, IterationFault, in_counter, in_first_value, in_last_value, in_step_value, HeadFault, in_while_condition, in_iteration, LabelsFault, label_again, in_other_labels}
+use Rattle.typing_rules.specs.StatementFaults.{TargetsFault, in_first_target, in_other_targets, LabelsFault, label_again, in_other_labels}
 use Rattle.typing_rules.proofs.Judged.{fault_of, then_ok, then_fault, passed, failed, got, got_none}
-use Rattle.typing_rules.proofs.ExpressionsTyped.{target_is}
-use Rattle.typing_rules.proofs.ExpressionsRefused.{is_nothing, NoObject, no_object, fault_is, values_fault, target_fault_is}
+use Rattle.typing_rules.proofs.ExpressionsTyped.{target_is, value_is}
+use Rattle.typing_rules.proofs.ExpressionsRefused.{is_nothing, values_fault, target_fault_is, value_fault}
 use Rattle.typing_rules.proofs.ItemsTyped.{elements_fault}
 use Rattle.typing_rules.proofs.ProceduresTyped.{heading_is, objects_are, body_is, heading_fault, objects_fault, body_fault}
-use Rattle.typing_rules.proofs.ModulesTyped.{value_is, targets_are, counter_is, head_is, labels_are, return_is, statement_is, alone_is, declaration_is, declarations_are}
-
-value_fault : {tree : ExpressionTree} {fault : Fault} (progress : Progress)
-    → ExpressionFault progress.known progress.constants tree fault
-    → value tree progress ≡ Err fault
-value_fault progress is = then_fault _ (fault_is is)
+use Rattle.typing_rules.proofs.ModulesTyped.{targets_are, labels_are, return_is, statement_is, alone_is, declaration_is, declarations_are}
+use Rattle.typing_rules.proofs.Heads.{head_is, head_fault}
 
 targets_fault : {known : Known} {before : Constants} {targets : List ReferenceTree} {fault : Fault}
     → TargetsFault known before targets fault
     → destinations known targets before ≡ Err fault
 targets_fault (in_first_target is) = then_fault _ (target_fault_is is)
 targets_fault (in_other_targets target is) = then_ok _ (target_is target) (then_fault _ (targets_fault is))
-
--- iterations
-no_counter_is : (known : Known) (name : Identifier) (binding : Binding)
-    → NoObject known binding
-    → counter_bound known binding name ≡ Err (at_name NoVariable name)
-no_counter_is known name (Declared (Object number)) none =
-    then_fault _
-    (got_none _ _ (is_nothing (slice_get known.objects number) (λ object e. none number object refl e)))
-no_counter_is known name (Declared (Procedure number)) none = refl
-no_counter_is known name (Declared (Label number)) none = refl
-no_counter_is known name (Declared Definition) none = refl
-no_counter_is known name (BuiltInName built_in) none = refl
-no_counter_is known name UnknownLabel none = refl
-
-first_is_false : {one : Bool} (other : Bool) → one ≡ false → (one && other) ≡ false
-first_is_false other is = subst (λ it. (it && other) ≡ false) (sym is) refl
-
-last_is_false : (one : Bool) {other : Bool} → other ≡ false → (one && other) ≡ false
-last_is_false true is = is
-last_is_false false is = refl
-
--- a structure that is neither an array nor BASED, and one that is
-no_scalar_is : {A : Type 0} {cause : Cause} {place : Place} (test : Bool) (next : Checked A)
-    → next ≡ Err (fault_of cause place)
-    → (require test cause place >>= λ _. next) ≡ Err (fault_of cause place)
-no_scalar_is true next e = e
-no_scalar_is false next e = refl
-
-counter_fault : {fault : Fault} (head : IterationTree) (progress : Progress)
-    → CounterFault progress.known head.variable fault
-    → iteration head progress ≡ Err fault
-counter_fault head progress (unknown_counter none) = then_fault _ (got_none _ _ none)
-counter_fault head progress (counter_of_no_variable is) =
-    then_ok _ (got _ _ is.named)
-    (then_fault _ (no_counter_is progress.known head.variable is.binding (no_object is)))
-counter_fault head progress (counter_with_data is has) =
-    then_ok _ (got _ _ is.named)
-    (then_fault _ (then_ok _ (got _ _ is.listed) (then_fault _ (failed _ _ (ap not has)))))
-counter_fault head progress (counter_in_array is plain array) =
-    then_ok _ (got _ _ is.named)
-    (then_fault _ (then_ok _ (got _ _ is.listed) (then_ok _ (passed _ _ (ap not plain))
-    (then_fault _ (failed _ _ (first_is_false _ (ap is_none array)))))))
-counter_fault head progress (based_counter is plain based) =
-    then_ok _ (got _ _ is.named)
-    (then_fault _ (then_ok _ (got _ _ is.listed) (then_ok _ (passed _ _ (ap not plain))
-    (then_fault _ (failed _ _ (last_is_false _ based))))))
-counter_fault head progress (counter_with_members is plain members) =
-    then_ok _ (got _ _ is.named)
-    (then_fault _ (then_ok _ (got _ _ is.listed) (then_ok _ (passed _ _ (ap not plain))
-    (no_scalar_is _ _ (then_fault _ (got_none _ _ (ap scalar_of members)))))))
-
-step_fault : {tree : Option ExpressionTree} {fault : Fault} (progress : Progress)
-    → StepFault progress.known progress.constants tree fault
-    → step tree progress ≡ Err fault
-step_fault progress (in_step is) = then_fault _ (value_fault progress is)
-
-iteration_fault : {head : IterationTree} {fault : Fault} (progress : Progress)
-    → IterationFault progress.known progress.constants head fault
-    → iteration head progress ≡ Err fault
-iteration_fault progress (in_counter {head = head} is) = counter_fault head progress is
-iteration_fault progress (in_first_value is fault) =
-    then_ok _ (got _ _ is.variable.named)
-    (then_ok _ (counter_is is) (then_fault _ (value_fault progress fault)))
-iteration_fault progress (in_last_value {one = one} is first fault) =
-    then_ok _ (got _ _ is.variable.named) (then_ok _ (counter_is is) (then_ok _ (value_is progress first)
-    (then_fault _ (value_fault (with_constants one progress) fault))))
-iteration_fault progress (in_step_value {one = one} {two = two} is first last fault) =
-    then_ok _ (got _ _ is.variable.named) (then_ok _ (counter_is is) (then_ok _ (value_is progress first)
-    (then_ok _ (value_is (with_constants one progress) last)
-    (then_fault _ (step_fault (with_constants two progress) fault)))))
-
-head_fault : {head : LoopHeadTree} {fault : Fault} (progress : Progress)
-    → HeadFault progress.known progress.constants head fault
-    → loop_head head progress ≡ Err fault
-head_fault progress (in_while_condition is) = then_fault _ (value_fault progress is)
-head_fault progress (in_iteration is) = then_fault _ (iteration_fault progress is)
 
 labels_fault : {here : Here} {labels : List Identifier} {fault : Fault}
     → LabelsFault here labels fault

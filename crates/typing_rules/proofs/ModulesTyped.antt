@@ -1,25 +1,21 @@
 -- A typing of a statement, a declaration or a module by the rules is the one that the typing gives. So there
 -- is at most one.
-use Rattle.typing_rules.proofs.Prelude.{◌≡◌, ℕ, Bool, true, not, List, Option, Some, None, Ok, refl, sym, ap, subst, eq-eqb, ScalarType, Identifier, Place, ExpressionTree, ReferenceTree, ArgumentTrees, Binding, Declared, Object, TypedExpression, MoreTyped, NoTyped, Constants, Checked, Destination, Known, number_of_arguments, scalar_of, ExpressionTyping, ValuesTyping, no_values, next_value}
-use Rattle.std.specs.Prelude.{◌&&◌, is_none}
-use Rattle.trees.specs.Trees.{HeadingTree, IterationTree, LoopHeadTree, StatementTree, StatementKindTree, ElseTree, StatementTrees, DeclarationTree, DeclarationTrees, ModuleTree}
+use Rattle.typing_rules.proofs.Prelude.{◌≡◌, ℕ, not, List, Option, Some, None, Ok, refl, sym, ap, subst, eq-eqb, ScalarType, Identifier, Place, ExpressionTree, ReferenceTree, ArgumentTrees, Binding, TypedExpression, MoreTyped, NoTyped, Constants, Checked, Destination, Known, number_of_arguments, ValuesTyping, no_values, next_value}
+use Rattle.std.specs.Prelude.{is_none}
+use Rattle.trees.specs.Trees.{HeadingTree, StatementTree, StatementKindTree, ElseTree, StatementTrees, DeclarationTree, DeclarationTrees, ModuleTree}
 use Rattle.names.specs.Environment.{Here}
-use Rattle.typed_trees.specs.TypedTrees.{TypedHead, TypedIteration, TypedStatement, TypedElse, TypedStatements, TypedList, TypedModule}
+use Rattle.typed_trees.specs.TypedTrees.{TypedStatement, TypedElse, TypedStatements, TypedList, TypedModule}
 use Rattle.typing.specs.Blocks.{Owner, OfProcedure, Block, Progress}
 use Rattle.typing.specs.Statements.{with_constants}
-use Rattle.typing.specs.internal.StatementChecks.{value, destinations, return_with, return_from, goto_bound, counter_bound, step, iteration, loop_head, declare_labels, list_of}
+use Rattle.typing.specs.internal.StatementChecks.{value, destinations, return_with, return_from, goto_bound, declare_labels, list_of}
 use Rattle.typing.specs.internal.Typing.{kind, alone, else_part, cases, statements, declaration, declarations, typing_of}
 use Rattle.typing_rules.specs.Modules.{StatementTyping, null, assignment, call, move, return, return_value, halt, goto, if_then, simple_do, loop, do_case, AloneTyping, unlabelled, ElseTyping, no_else, with_else, CasesTyping, no_case, next_case, StatementsTyping, no_statement, next_statement, ListTyping, list, DeclarationTyping, declare, procedure, DeclarationsTyping, no_declaration, next_declaration, ModuleTyping, whole}
-use Rattle.typing_rules.specs.Statements.{TargetsTyping, no_targets, next_target, IsCounter, StepTyping, no_step, a_step, IterationTyping, iterates, HeadTyping, do_while, iterative_do, AreNewLabels, no_labels, next_label}
+use Rattle.typing_rules.specs.Statements.{TargetsTyping, no_targets, next_target, AreNewLabels, no_labels, next_label}
 use Rattle.typing_rules.proofs.Judged.{then_ok, passed, got}
-use Rattle.typing_rules.proofs.ExpressionsTyped.{typing_is, values_is, target_is}
+use Rattle.typing_rules.proofs.ExpressionsTyped.{values_is, target_is, value_is}
 use Rattle.typing_rules.proofs.ItemsTyped.{elements_are}
 use Rattle.typing_rules.proofs.ProceduresTyped.{heading_is, objects_are, body_is}
-
-pub value_is : {tree : ExpressionTree} {typed : TypedExpression} {after : Constants} (progress : Progress)
-    → ExpressionTyping progress.known progress.constants tree typed after
-    → value tree progress ≡ Ok (typed, with_constants after progress)
-value_is progress is = then_ok _ (typing_is is) refl
+use Rattle.typing_rules.proofs.Heads.{head_is}
 
 pub targets_are : {known : Known} {before : Constants} {targets : List ReferenceTree}
     {found : List Destination} {after : Constants}
@@ -27,39 +23,6 @@ pub targets_are : {known : Known} {before : Constants} {targets : List Reference
     → destinations known targets before ≡ Ok (found, after)
 targets_are no_targets = refl
 targets_are (next_target is others) = then_ok _ (target_is is) (then_ok _ (targets_are others) refl)
-
--- iterations
-pub both_are : {one other : Bool} → one ≡ true → other ≡ true → (one && other) ≡ true
-both_are {other = other} first second = subst (λ it. (it && other) ≡ true) (sym first) second
-
-pub counter_is : {known : Known} {name : Identifier} {number : ℕ} {scalar : ScalarType}
-    → IsCounter known name number scalar
-    → counter_bound known (Declared (Object number)) name ≡ Ok (record { object = number; scalar = scalar })
-counter_is is =
-    then_ok _ (got _ _ is.variable.listed) (then_ok _ (passed _ _ (ap not is.without_data))
-    (then_ok _ (passed _ _ (both_are (ap is_none is.no_array) is.not_based))
-    (then_ok _ (got _ _ (ap scalar_of is.is_scalar)) refl)))
-
-step_is : {tree : Option ExpressionTree} {typed : Option TypedExpression} {after : Constants}
-    (progress : Progress)
-    → StepTyping progress.known progress.constants tree typed after
-    → step tree progress ≡ Ok (typed, with_constants after progress)
-step_is progress no_step = refl
-step_is progress (a_step is) = then_ok _ (value_is progress is) refl
-
-iteration_is : {head : IterationTree} {typed : TypedIteration} {after : Constants} (progress : Progress)
-    → IterationTyping progress.known progress.constants head typed after
-    → iteration head progress ≡ Ok (typed, with_constants after progress)
-iteration_is progress (iterates {one = one} {two = two} is first last by) =
-    then_ok _ (got _ _ is.variable.named) (then_ok _ (counter_is is) (then_ok _ (value_is progress first)
-    (then_ok _ (value_is (with_constants one progress) last)
-    (then_ok _ (step_is (with_constants two progress) by) refl))))
-
-pub head_is : {head : LoopHeadTree} {typed : TypedHead} {after : Constants} (progress : Progress)
-    → HeadTyping progress.known progress.constants head typed after
-    → loop_head head progress ≡ Ok (typed, with_constants after progress)
-head_is progress (do_while is) = then_ok _ (value_is progress is) refl
-head_is progress (iterative_do is) = then_ok _ (iteration_is progress is) refl
 
 pub labels_are : {here after : Here} {labels : List Identifier}
     → AreNewLabels here labels after

@@ -1,8 +1,8 @@
 -- The parts of statements that hold no statement: what the typing gives of them has a typing by the rules,
 -- and the fault that it gives is one of the rules.
-use Rattle.typing_rules.proofs.Prelude.{not-false, not-true, ◌≡◌, ℕ, ◌==◌, Bool, true, false, not, List, [], ◌∷◌, length, Option, Some, None, Ok, refl, sym, subst, arith, slice_get, inl, inr, ◌⊎◌, eqb-true, eqb-false, ScalarType, Identifier, Place, ExpressionTree, ReferenceTree, ReferenceTo, ArgumentTrees, Binding, Declared, BuiltInName, UnknownLabel, BuiltIn, Object, Procedure, Label, Definition, binding_of, TypedArguments, ObjectType, ScalarObject, StructureObject, TypedProcedure, Constants, ArgumentCount, CallOfNoProcedure, ConstantWritten, NoVariable, UnknownName, Fault, Checked, ◌>>=◌, arguments, Known, number_of_arguments, scalar_of, is_constant, StandsFor, IsVariable, IsProcedure, IsBuiltIn, IsNoProcedure, ExpressionTyping, ValuesTyping, no_values, next_value, ExpressionFault}
+use Rattle.typing_rules.proofs.Prelude.{not-false, not-true, ◌≡◌, ℕ, ◌==◌, Bool, true, false, not, List, [], ◌∷◌, length, Option, Some, None, Ok, refl, sym, subst, arith, slice_get, inl, inr, ◌⊎◌, eqb-true, eqb-false, ScalarType, Identifier, Place, ExpressionTree, ReferenceTree, ReferenceTo, ArgumentTrees, Binding, Declared, BuiltInName, UnknownLabel, BuiltIn, Object, Procedure, Label, Definition, TypedArguments, ObjectType, ScalarObject, StructureObject, TypedProcedure, Constants, ArgumentCount, CallOfNoProcedure, ConstantWritten, NoVariable, Fault, Checked, ◌>>=◌, arguments, Known, number_of_arguments, scalar_of, is_constant, StandsFor, IsVariable, IsProcedure, IsBuiltIn, IsNoProcedure, ExpressionTyping, ValuesTyping, no_values, next_value, ExpressionFault}
 use Rattle.std.specs.Prelude.{◌&&◌, is_none}
-use Rattle.trees.specs.Trees.{HeadingTree, IterationTree, LoopHeadTree, WhileHead, CountHead, CallStatement, ReturnStatement, GotoStatement}
+use Rattle.trees.specs.Trees.{HeadingTree, CallStatement, ReturnStatement, GotoStatement}
 use Rattle.names.specs.declared.entity.BuiltIn.TheVariants as built_ins
 use Rattle.names.specs.BuiltIns.{jump_of}
 use Rattle.names.specs.Environment.{Here, with_label, is_label_again}
@@ -12,11 +12,11 @@ use Rattle.typing.specs.declared.fault.Cause.TheVariants.{DeclaredTwice, CallOfT
 use Rattle.typing.specs.Blocks.{Owner, TheModule, OfProcedure, Block, Progress}
 use Rattle.typing.specs.Items.{is_not_based}
 use Rattle.typing.specs.Statements.{with_constants}
-use Rattle.typing.specs.internal.StatementChecks.{value, destinations, moved, call_bound, return_with, return_from, goto_bound, counter_bound, step, iteration, loop_head, declare_labels}
+use Rattle.typing.specs.internal.StatementChecks.{value, destinations, moved, call_bound, return_with, return_from, goto_bound, counter_bound, declare_labels}
 use Rattle.typing_rules.specs.Modules.{StatementTyping, call, move, return, return_value, goto}
 use Rattle.typing_rules.specs.ModuleFaults.{StatementFault, call_of_no_procedure, call_of_typed, call_with_wrong_count, in_argument_of_call, move_with_wrong_count, in_argument_of_move, return_outside, value_for_no_type, no_value_for_type, in_returned_value, unknown_label}
-use Rattle.typing_rules.specs.Statements.{TargetsTyping, no_targets, next_target, IsCounter, StepTyping, no_step, a_step, IterationTyping, iterates, HeadTyping, do_while, iterative_do, AreNewLabels, no_labels, next_label}
-use Rattle.typing_rules.specs.StatementFaults.{TargetsFault, in_first_target, in_other_targets, CounterFault, unknown_counter, counter_of_no_variable, counter_with_data, counter_in_array, based_counter, counter_with_members, StepFault, in_step, IterationFault, in_counter, in_first_value, in_last_value, in_step_value, HeadFault, in_while_condition, in_iteration, LabelsFault, label_again, in_other_labels}
+use Rattle.typing_rules.specs.Statements.{TargetsTyping, no_targets, next_target, IsCounter, AreNewLabels, no_labels, next_label}
+use Rattle.typing_rules.specs.StatementFaults.{TargetsFault, in_first_target, in_other_targets, CounterFault, counter_of_no_variable, counter_with_data, counter_in_array, based_counter, counter_with_members, LabelsFault, label_again, in_other_labels}
 use Rattle.typing_rules.proofs.Judged.{Judged, judged_ok, judged_fault, then_judged, judged_more, then_when, then_found}
 use Rattle.typing.proofs.Types.TypesOfReferences.{scalar_is}
 use Rattle.typing_rules.proofs.ReferencesJudged.{is_no_variable, target_judged}
@@ -84,7 +84,7 @@ the_members : (object_type : ObjectType) → scalar_of object_type ≡ None
 the_members (ScalarObject scalar) e = absurd cc
 the_members (StructureObject members) e = (members, refl)
 
-counter_judged : (known : Known) (binding : Binding) (name : Identifier)
+pub counter_judged : (known : Known) (binding : Binding) (name : Identifier)
     → StandsFor known name binding
     → Judged (λ counter. IsCounter known name counter.object counter.scalar) (CounterFault known name)
     (counter_bound known binding name)
@@ -128,44 +128,6 @@ counter_judged known (BuiltInName built_in) name named =
     judged_fault (counter_of_no_variable (is_no_variable _ named (λ other object e listed. absurd cc)))
 counter_judged known UnknownLabel name named =
     judged_fault (counter_of_no_variable (is_no_variable _ named (λ other object e listed. absurd cc)))
-
-step_judged : (tree : Option ExpressionTree) (progress : Progress)
-    → Judged (Reaches (StepTyping progress.known progress.constants tree) progress)
-    (StepFault progress.known progress.constants tree)
-    (step tree progress)
-step_judged None progress =
-    judged_ok (record { after = progress.constants; typing = no_step; reached = refl })
-step_judged (Some tree) progress =
-    then_reached _ (value_judged tree progress) (λ fault is. in_step is) (λ typed after is.
-    judged_ok (record { after = after; typing = a_step is; reached = refl }))
-
-iteration_judged : (head : IterationTree) (progress : Progress)
-    → Judged (Reaches (IterationTyping progress.known progress.constants head) progress)
-    (IterationFault progress.known progress.constants head)
-    (iteration head progress)
-iteration_judged head progress =
-    then_found (binding_of progress.known.here head.variable.name) UnknownName head.variable.place
-    (λ none. in_counter (unknown_counter none)) (λ binding named.
-    then_judged (counter_judged progress.known binding head.variable named)
-    (λ fault is. in_counter is) (λ counter is.
-    then_reached _ (value_judged head.first progress) (λ fault its. in_first_value is its) (λ first one its.
-    then_reached _ (value_judged head.last (with_constants one progress))
-    (λ fault more. in_last_value is its more) (λ last two more.
-    then_reached _ (step_judged head.step (with_constants two progress))
-    (λ fault by. in_step_value is its more by) (λ step after by.
-    judged_ok (record { after = after; typing = iterates is its more by; reached = refl }))))))
-
--- heads of loops
-pub head_judged : (head : LoopHeadTree) (progress : Progress)
-    → Judged (Reaches (HeadTyping progress.known progress.constants head) progress)
-    (HeadFault progress.known progress.constants head)
-    (loop_head head progress)
-head_judged (WhileHead condition) progress =
-    then_reached _ (value_judged condition progress) (λ fault is. in_while_condition is) (λ tested after is.
-    judged_ok (record { after = after; typing = do_while is; reached = refl }))
-head_judged (CountHead head) progress =
-    then_reached _ (iteration_judged head progress) (λ fault is. in_iteration is) (λ iteration after is.
-    judged_ok (record { after = after; typing = iterative_do is; reached = refl }))
 
 -- labels
 pub labels_judged : (labels : List Identifier) (here : Here)

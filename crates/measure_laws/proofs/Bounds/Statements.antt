@@ -1,9 +1,9 @@
 -- Statements of each form have their footprints.
 use Rattle.measure_laws.proofs.Prelude.{MoreStatements, NoStatements, ListsStandInCases, ◌≡◌, ℕ, ◌+◌, ◌≤◌, true, false, List, [], ◌∷◌, slice_get, Option, Some, None, refl, sym, subst, ◌∙◌, arith, same_Some, ScalarType, Byte, Address, type_of, JumpsStay, JumpsStayInElse, JumpsStayInList, JumpsStayInStatements, LabelsOf, labels_of_list, ListStands, ListsStand, ListsStandInElse, ListsStandInStatements, TypedElse, TypedExpression, TypedList, TypedModule, TypedStatement, TypedStatements, TypesHoldIn, TypesHoldInElse, TypesHoldInList, TypesHoldInStatements, Within, weight_of_else, weight_of_expression, weight_of_list, weight_of_optional, weight_of_statement, Item, Jump, Hlt, ExpressionNumber, Range, StatementNumber, AreMoreStatements, AreNoStatements, AreStatements, IsAssignment, IsCall, IsCase, IsDo, IsElse, IsGoto, IsHalt, IsIf, IsLabel, IsList, IsListOf, IsMove, IsNoElse, IsNoValue, IsNull, IsOptional, IsReturn, IsSomeElse, IsSomeValue, IsStatement, IsStatementForm, IsStatementNode, nodes_of, Facts, knowing, Planned, Reaches, body_label, jump, mark, Here, AreCarriedOut, IsCarriedOut, StatementPlanned, site_of, return_of_steps, returned_value_steps, statement_steps, bytes_for, spared_by, TypesHold, IfSome, IsReturned, BodyGround, HoldsWithinLevel, MayBind, PlanFootprint, StatementFootprint, StatementMeasured, ListFootprint, ◌*◌, FRAME_LIMIT, WithinMain, WithinProcedure, height_of_else, height_of_list, height_of_optional, height_of_statement, height_of_statements}
-use Rattle.treecode.specs.internal.Lowered.{IsCountHead, IsLoop, IsWhileHead}
+use Rattle.treecode.specs.internal.Lowered.{IsLoop}
 use Rattle.treecode.specs.declared.statement.Statement.{Statement}
 use Rattle.steps8080.specs.declared.step.Step.TheVariants as steps
-use Rattle.measure_laws.proofs.{Bounds.Assignments.{assignment_fits}, Bounds.Branches.{AnyFits, if_fits, while_fits}, Bounds.Cases.{case_fits}, Bounds.Iterations.{iteration_fits, type_there}, Bounds.Lists.{AllFit, MoreFit, NoneFit, list_measured, list_step_fits, statement_step_fits}, Bounds.Moves.{move_fits}, Bounds.ExpressionParts.{typed_is}, Bounds.Returns.{return_fits}, Labels.Lists.{AroundGo, LabelsDiffer, around_list, goto_is, goto_ok}}
+use Rattle.measure_laws.proofs.{Bounds.Assignments.{assignment_fits}, Bounds.Branches.{AnyFits, if_fits}, Bounds.Cases.{case_fits}, Bounds.Iterations.{type_there}, Bounds.Lists.{AllFit, MoreFit, NoneFit, list_measured, list_step_fits, statement_step_fits}, Bounds.Moves.{move_fits}, Bounds.ExpressionParts.{typed_is}, Bounds.Returns.{return_fits}, Heads.{loop_fits}, Labels.Lists.{AroundGo, LabelsDiffer, around_list, goto_is, goto_ok}}
 use Rattle.measure_laws.proofs.{Bounds.Fitting.{both_fit, less_if, none_fit, then_fit}, Bounds.Planning.{branch_fits, byte_fits, call_fits, code_fits, plains_fit, within_is, word_fits}}
 
 cases_stand : (trees : TypedStatements) → ListsStandInCases trees → ListsStandInStatements trees
@@ -61,14 +61,6 @@ returned_types :
     → IfSome value (HoldsWithinLevel at)
 returned_types at (Some value) is room = (returned_holds at.source.typed at.source.within value is, room)
 returned_types at None is room = tt
-
-step_types :
-    (at : BodyGround) (value : Option TypedExpression)
-    → IfSome value (TypesHold at.source.typed at.source.within)
-    → 2 * height_of_optional value ≤ at.level
-    → IfSome value (HoldsWithinLevel at)
-step_types at (Some value) is room = (is, room)
-step_types at None is room = tt
 
 module _
     (at : BodyGround) (few : at.counts → at.body.frame.now.parameter_count ≤ 16)
@@ -189,27 +181,12 @@ module _
         form_fits around (IsDo {range = range} is) types stand stay outer room facts first =
             formed (list_step_fits (whole_list_fits range around is types stand stay outer room))
             (λ c. omega arith)
-        form_fits around
-            (IsLoop {range = range} {list = list} (IsWhileHead {condition = condition} {test = test} test_is)
-            is) types stand stay outer room facts first =
+        form_fits around (IsLoop {head = head} {range = range} {tree = tree} {list = list} head_is is) types
+            stand stay outer room facts first =
             formed
-            (while_fits (knowing (site_of at.body) facts) condition (bytes_for (weight_of_expression test))
-            (λ label sense to. branch_fits at condition label sense 0
-            (within_is test_is types.0 (omega (arith, room))) to)
-            range (bytes_for (weight_of_list list))
+            (loop_fits at facts range (bytes_for (weight_of_list list))
             (list_step_fits (whole_list_fits range around is types.1 stand stay outer (omega (arith, room))))
-            first)
-            (λ c. omega arith)
-        form_fits around
-            (IsLoop {range = range} {list = list} (IsCountHead {head = head} {tree = tree} head_is) is)
-            types stand stay outer room facts first =
-            formed
-            (iteration_fits at facts head tree head_is (types.0.1, omega (arith, room))
-            (types.0.2, omega (arith, room))
-            (step_types at tree.step types.0.3 (omega (arith, room))) (omega (arith, room)) range
-            (bytes_for (weight_of_list list))
-            (list_step_fits (whole_list_fits range around is types.1 stand stay outer (omega (arith, room))))
-            first)
+            first head_is types.0 (omega (arith, room)))
             (λ c. omega arith)
         form_fits around (IsCase {choice = choice} {range = range} {trees = trees} choice_is are) types stand
             stay outer room facts first =

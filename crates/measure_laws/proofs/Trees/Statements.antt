@@ -1,12 +1,11 @@
 -- The weight of a body of tree code is that of its typed tree.
 use Rattle.measure_laws.proofs.Prelude.{◌≡◌, ℕ, zero, suc, ◌+◌, ◌≤◌, List, ◌∷◌, drop, length, take, Option, Some, slice_get, drop-cons, refl, ap, ◌∙◌, arith, sum_by, option_map_or, sum_by-cons, get_or_from_slice_get, slice_get_within, type_of, TypedArguments, TypedElse, TypedExpression, TypedIteration, TypedList, TypedStatement, TypedStatements, TypedTarget, Storage, Expression, ExpressionNumber, Range, Iteration, StatementNumber, AreArguments, AreMoreStatements, AreNoStatements, AreStatements, AreTargets, IsAssignment, IsCall, IsCase, IsDo, IsElse, IsExpressionIn, IsIf, IsIteration, IsList, IsListOf, IsMove, IsNoElse, IsNode, IsNoValue, IsOptional, IsReturn, IsSomeElse, IsSomeValue, IsStatement, IsStatementForm, IsStatementNode, MoreTargets, NoTargets, Nodes, no_traits, traits_at, beside_at, weight_of_body, weight_of_range, weight_within}
-use Rattle.treecode.specs.internal.Lowered.{IsCountHead, IsHead, IsLoop, IsWhileHead}
-use Rattle.typed_trees.specs.TypedTrees.{TypedHead}
-use Rattle.treecode.specs.declared.statement.LoopHead.{LoopHead}
+use Rattle.treecode.specs.internal.Lowered.{IsLoop}
 use Rattle.typed_trees.specs.Weight as typed
 use Rattle.treecode.specs.declared.statement.Statement.{Statement}
+use Rattle.measure_laws.proofs.Heads.{head_weighs}
 use Rattle.measure_laws.proofs.Footprints.Weights.{arguments_weigh, target_weighs, weighs_at}
-use Rattle.measure_laws.specs.internal.Bounds.{weight_of_arguments, weight_of_expression, weight_of_head, weight_of_iteration, weight_of_statement, weight_of_target}
+use Rattle.measure_laws.specs.internal.Bounds.{weight_of_arguments, weight_of_expression, weight_of_iteration, weight_of_statement, weight_of_target}
 
 -- the weight of the entries of a range of a table is that of the first one plus that of the others
 entries_weigh :
@@ -87,14 +86,6 @@ module _ (nodes : Nodes) (storage : Storage) where
         expression_weighs head.last tree.last is.last,
         optional_weighs head.step tree.step is.step,
       )
-
-  head_weighs :
-      (head : LoopHead) (tree : TypedHead)
-      → IsHead nodes storage head tree
-      → weight_of_head nodes head ≡ typed.weight_of_head tree
-  head_weighs head tree (IsWhileHead {condition = condition} {test = test} is) =
-      expression_weighs condition test is
-  head_weighs head tree (IsCountHead {head = iteration} {tree = from} is) = iteration_weighs iteration from is
 
   module _ (labels : List ℕ) where
     -- this is the weight of the statements with numbers below a limit
@@ -177,7 +168,7 @@ module _ (nodes : Nodes) (storage : Storage) where
         ap (λ n. 1 + n) (list_weighs limit weight bound range list weighs enough is)
     form_weighs limit weight bound statement tree weighs enough
         (IsLoop {head = head} {range = range} {tree = from} {list = list} one two) =
-        let first = head_weighs head from one in
+        let first = head_weighs nodes storage expression_weighs iteration_weighs head from one in
         let second = list_weighs limit weight bound range list weighs enough two in
         omega (arith, first, second)
     form_weighs limit weight bound statement tree weighs enough

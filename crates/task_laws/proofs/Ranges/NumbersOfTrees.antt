@@ -1,10 +1,9 @@
 -- The numbers of a module that is tree code have 16 bits, since those of tree code have. So a program of such
 -- modules has types.
-use Rattle.task_laws.proofs.Prelude.{◌≡◌, ◌⊎◌, inl, inr, ℕ, suc, ◌<◌, ◌≤◌, List, [], ◌∷◌, length, get_or, Option, Some, None, slice_get, refl, sym, subst, arith, slice_get_cases, slice_get_within, All, AllByRecursion, All-from_recursion, IsScript, ListsGlobals, IsWellTyped, IsJoined, Program, Subscript, TypedArguments, TypedElse, TypedExpression, TypedList, TypedModule, TypedProcedure, TypedReference, TypedStatement, TypedStatements, TypedTarget, Storage, ExpressionForm, ExpressionNumber, Range, TreeModule, TreeProcedure, Reference, IndexNode, Target, Statement, StatementNumber, AreArguments, AreMore, AreMoreStatements, AreNoStatements, AreNone, AreStatements, AreTargets, IsAbsent, IsAssignment, IsBinary, IsCall, IsCallOf, IsCase, IsConstantList, IsConversion, IsDo, IsElse, IsEmbedded, IsExpression, IsForm, IsFunction, IsIf, IsIndex, IsInput, IsList, IsListOf, IsLocation, IsLowered, IsMove, IsNoElse, IsNoValue, IsNode, IsNumber, IsOptional, IsPart, IsReference, IsReturn, IsSent, IsShift, IsSomeElse, IsSomeValue, IsStatement, IsStatementForm, IsStatementNode, IsStored, IsSubscript, IsTarget, IsUnary, IsValue, MoreTargets, NoTargets, Nodes, nodes_of, NumbersAreWords, NumbersFit, NumbersFitIfSome, NumbersFitIn, NumbersFitInArguments, NumbersFitInElse, NumbersFitInHead, NumbersFitInList, NumbersFitInModule, NumbersFitInProcedure, NumbersFitInReference, NumbersFitInStatements, NumbersFitInSubscript, NumbersFitInTarget, NumbersFitInTargets, HasTypes}
-use Rattle.treecode.specs.internal.Lowered.{IsCountHead, IsHead, IsLoop, IsWhileHead}
-use Rattle.typed_trees.specs.TypedTrees.{TypedHead}
-use Rattle.treecode.specs.declared.statement.LoopHead.{LoopHead}
+use Rattle.task_laws.proofs.Prelude.{◌≡◌, ◌⊎◌, inl, inr, ℕ, suc, ◌<◌, ◌≤◌, List, [], ◌∷◌, length, get_or, Option, Some, None, slice_get, refl, sym, subst, arith, slice_get_cases, slice_get_within, All, AllByRecursion, All-from_recursion, IsScript, ListsGlobals, IsWellTyped, IsJoined, Program, Subscript, TypedArguments, TypedElse, TypedExpression, TypedList, TypedModule, TypedProcedure, TypedReference, TypedStatement, TypedStatements, TypedTarget, Storage, ExpressionForm, ExpressionNumber, Range, TreeModule, TreeProcedure, Reference, IndexNode, Target, Statement, StatementNumber, AreArguments, AreMore, AreMoreStatements, AreNoStatements, AreNone, AreStatements, AreTargets, IsAbsent, IsAssignment, IsBinary, IsCall, IsCallOf, IsCase, IsConstantList, IsConversion, IsDo, IsElse, IsEmbedded, IsExpression, IsForm, IsFunction, IsIf, IsIndex, IsInput, IsList, IsListOf, IsLocation, IsLowered, IsMove, IsNoElse, IsNoValue, IsNode, IsNumber, IsOptional, IsPart, IsReference, IsReturn, IsSent, IsShift, IsSomeElse, IsSomeValue, IsStatement, IsStatementForm, IsStatementNode, IsStored, IsSubscript, IsTarget, IsUnary, IsValue, MoreTargets, NoTargets, Nodes, nodes_of, NumbersAreWords, NumbersFit, NumbersFitIfSome, NumbersFitIn, NumbersFitInArguments, NumbersFitInElse, NumbersFitInList, NumbersFitInModule, NumbersFitInProcedure, NumbersFitInReference, NumbersFitInStatements, NumbersFitInSubscript, NumbersFitInTarget, NumbersFitInTargets, HasTypes}
+use Rattle.treecode.specs.internal.Lowered.{IsLoop}
 use Rattle.treecode.specs.declared.expression.ExpressionForm.TheVariants as forms
+use Rattle.task_laws.proofs.Ranges.Heads.{in_head}
 
 module _ (nodes : Nodes) (storage : Storage) (words : NumbersAreWords nodes) where
   mutual
@@ -59,10 +58,6 @@ module _ (nodes : Nodes) (storage : Storage) (words : NumbersAreWords nodes) whe
   in_targets NoTargets = tt
   in_targets (MoreTargets there is more) = (in_target is, in_targets more)
 
-  in_head : {head : LoopHead} {tree : TypedHead} → IsHead nodes storage head tree → NumbersFitInHead tree
-  in_head (IsWhileHead is) = in_node is
-  in_head (IsCountHead is) = (in_node is.first, in_node is.last, in_optional is.step)
-
   mutual
     in_statement : {labels : List ℕ} {bound number : ℕ} {tree : TypedStatement}
         → IsStatement nodes storage labels bound number tree → NumbersFitIn tree
@@ -77,7 +72,10 @@ module _ (nodes : Nodes) (storage : Storage) (words : NumbersAreWords nodes) whe
     in_statement_form (IsIf condition body otherwise) =
         (in_node condition, in_statement body, in_else otherwise)
     in_statement_form (IsDo list) = in_list list
-    in_statement_form (IsLoop head list) = (in_head head, in_list list)
+    in_statement_form (IsLoop head list) = (
+      in_head nodes storage (λ bound number tree is. in_node is) (λ number tree is. in_optional is) head,
+      in_list list,
+    )
     in_statement_form (IsCase choice list) = (in_node choice, in_statements list)
     in_statement_form form = tt
 

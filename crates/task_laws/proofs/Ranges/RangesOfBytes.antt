@@ -1,6 +1,6 @@
 -- Values that are read and written have their types: bytes of a state of the source, places, operators and
 -- functions.
-use Rattle.task_laws.proofs.Prelude.{◌≡◌, ◌≢◌, ◌⊎◌, inl, inr, ℕ, ◌+◌, ◌*◌, ◌/◌, ◌%◌, ◌<◌, ◌≤◌, Bool, true, false, List, [], length, All, option_map, Option, Some, None, slice_get, slice_index_or, slice_set, if◌then◌else◌, refl, subst, arith, option_map_or, All-get_or, All-nil, All-set, get_or_past, length-set, cases_lt, cases_eq, MEMORY_SIZE, byte_at, input_value, queue_of, reads_of, IsScript, ScalarType, Byte, Address, type_of_target, InData, InConstants, Placed, BasedOn, Elsewhere, Nowhere, InFrame, TypedModule, TypedTarget, StoredIn, SentTo, TypesHoldInTarget, Within, Reason, Constant, InMemory, InTheFrame, Surroundings, frame_bytes, is_constant, is_declared, next_place, place_of, read_byte, read_scalar, write_byte, write_scalar, address_in_memory, address_of_list, based_place, computed, Outside, Outcome, Gave, Stop, Stopped, then_do, values_of, Number, ModulePlacement, Event, byte_kept, byte_put, SourceFits, two_bytes_fit}
+use Rattle.task_laws.proofs.Prelude.{◌≡◌, ◌≢◌, ◌⊎◌, inl, inr, ℕ, ◌+◌, ◌*◌, ◌/◌, ◌%◌, ◌<◌, ◌≤◌, Bool, true, false, List, [], length, All, option_map, Option, Some, None, slice_get, slice_index_or, slice_set, if◌then◌else◌, refl, subst, arith, option_map_or, All-get_or, All-nil, All-set, get_or_past, length-set, cases_lt, cases_eq, MEMORY_SIZE, byte_at, input_value, queue_of, reads_of, IsScript, ScalarType, Byte, Address, type_of_target, InData, InConstants, Placed, BasedOn, Elsewhere, Nowhere, InFrame, TypedModule, TypedTarget, StoredIn, SentTo, TypesHoldInTarget, Within, Reason, Constant, InMemory, InTheFrame, Surroundings, frame_bytes, is_constant, is_declared, next_place, place_of, read_byte, read_scalar, write_byte, write_scalar, address_in_memory, address_of_list, based_place, computed, Outside, Outcome, Gave, Stop, Stopped, then_do, values_of, Number, ModulePlacement, Event, byte_kept, byte_put, SourceFits, two_bytes_fit, ◌==◌, ◌-◌, More, taking_one}
 use Rattle.typed_trees.specs.TypedTrees.{Home}
 use Rattle.meaning.specs.{Access.{Place}, Outcomes.{State}}
 use Rattle.task_laws.proofs.Machine.KnownOperands.{KnownFits, high_fits}
@@ -209,3 +209,20 @@ pub target_type : (typed : TypedModule) (within : Within) (to : TypedTarget) (sc
     → TypesHoldInTarget typed within scalar to → type_of_target to ≡ scalar
 target_type typed within (StoredIn from to part) scalar types = types.0
 target_type typed within (SentTo from port) scalar types = types.0
+
+-- where a test decides
+pub either :
+    {A : Type 0} {Holds : A → State → Type 0} (test : Bool) (one other : Outcome A)
+    → Gives Holds one → Gives Holds other → Gives Holds (if test then one else other)
+either true one other first second = first
+either false one other first second = second
+
+-- where one is taken of the budget
+pub after_taking :
+    {A : Type 0} {Holds : A → State → Type 0} (around : Surroundings) (s : State) (go : State → Outcome A)
+    → SourceFits around s
+    → ((t : State) → SourceFits around t → Gives Holds (go t))
+    → Gives Holds (taking_one s go)
+after_taking {A = A} {Holds = Holds} around s go source rest =
+    either (s.budget == 0) (Stopped More s) (go (record s { budget = s.budget - 1 })) IsStopped
+    (rest (record s { budget = s.budget - 1 }) (record { memory = source.memory; frame = source.frame }))

@@ -5,9 +5,9 @@ use Rattle.typed_trees.specs.declared.parts.Visibility.TheVariants as visibiliti
 use Rattle.layout.specs.Joined.{agree}
 use Rattle.layout.proofs.Meant.{MeansProcedure, external_procedure_meant, procedures_agree}
 use Rattle.meaning.specs.Outcomes.{State}
-use Rattle.task_laws.proofs.Ranges.RangesOfBytes.{Gives, IsGiven, IsStopped, given_by, gives_then, write_fits}
+use Rattle.task_laws.proofs.Ranges.RangesOfBytes.{Gives, IsGiven, IsStopped, given_by, gives_then, write_fits, after_taking, either}
 use Rattle.task_laws.proofs.Ranges.RangesOfTrees.{CalleesAreHeaded, FlowFits, IsHeaded, LaterFits, calls_give, nothing_fits}
-use Rattle.task_laws.proofs.Ranges.RangesOfStatements.{after_taking, either, list_fits, rest_fits, turn_fits}
+use Rattle.task_laws.proofs.Ranges.RangesOfStatements.{list_fits, rest_fits, turn_fits}
 
 -- A call finds its procedure.
 module _ (around : Surroundings) (program : HasTypes around.program) (typed : TypedModule)

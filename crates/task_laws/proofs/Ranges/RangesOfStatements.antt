@@ -1,27 +1,10 @@
 -- Values of typed trees are of their types: for statements, provided that those of calls, further turns and
 -- jumps are.
-use Rattle.task_laws.proofs.Prelude.{◌≡◌, ℕ, zero, suc, ◌+◌, ◌-◌, ◌%◌, ◌<◌, ◌==◌, Bool, true, false, nat_le, nat_lt, Option, Some, None, option_map, slice_get, if◌then◌else◌, refl, subst, IfSome, MEMORY_SIZE, type_of, TypedExpression, TypedHead, TypedIteration, TypedStatement, LabelStatement, NullStatement, AssignmentStatement, CallStatement, MoveStatement, ReturnStatement, HaltStatement, GotoStatement, IfStatement, DoStatement, LoopStatement, CaseStatement, TypedElse, NoElse, ElseStatement, TypedStatements, NoStatements, MoreStatements, TypedList, ListOf, TypedModule, IsReturned, TypesHold, TypesHoldIn, TypesHoldInElse, TypesHoldInHead, TypesHoldInList, TypesHoldInStatements, Within, WithinMain, WithinProcedure, InMemory, Surroundings, place_of, read_byte, write_byte, Later, LoopTurn, Turn, after_turn, begun_loop, called_for, callee_in, caught_in, done, done_all, done_case, done_else, done_list, dropped, going_on, iterated, landed, moved, next_turn, read_variable, rest_from, rest_of, returned, step_value, stepped, stored_in_each, turn_of, turned_loop, value, values, write_variable, Flow, Gave, Jumped, More, Onward, Outcome, Returned, Stopped, taking_one, then_do, as_type, is_true, values_of, SourceFits, NumbersFit, NumbersFitIfSome, NumbersFitIn, NumbersFitInElse, NumbersFitInHead, NumbersFitInList, NumbersFitInStatements, HasTypes, as_type_fits}
-use Rattle.typed_trees.specs.TypedTrees.{WhileHead, CountHead}
+use Rattle.task_laws.proofs.Prelude.{◌≡◌, ℕ, zero, suc, ◌+◌, ◌-◌, ◌%◌, ◌<◌, Bool, true, false, nat_le, Option, Some, None, option_map, slice_get, if◌then◌else◌, refl, subst, MEMORY_SIZE, type_of, TypedExpression, TypedStatement, LabelStatement, NullStatement, AssignmentStatement, CallStatement, MoveStatement, ReturnStatement, HaltStatement, GotoStatement, IfStatement, DoStatement, LoopStatement, CaseStatement, TypedElse, NoElse, ElseStatement, TypedStatements, NoStatements, MoreStatements, TypedList, ListOf, TypedModule, IsReturned, TypesHold, TypesHoldIn, TypesHoldInElse, TypesHoldInList, TypesHoldInStatements, Within, WithinMain, WithinProcedure, InMemory, Surroundings, read_byte, write_byte, Later, LoopTurn, Turn, called_for, callee_in, caught_in, done, done_all, done_case, done_else, done_list, dropped, going_on, landed, moved, rest_from, rest_of, returned, stored_in_each, turn_of, turned_loop, value, values, Flow, Gave, Jumped, Onward, Outcome, Returned, then_do, is_true, values_of, SourceFits, NumbersFit, NumbersFitIfSome, NumbersFitIn, NumbersFitInElse, NumbersFitInList, NumbersFitInStatements, HasTypes}
 use Rattle.meaning.specs.Outcomes.{State}
-use Rattle.task_laws.proofs.Ranges.RangesOfBytes.{Gives, IsGiven, IsStopped, byte_fits, gives_then, of_type, read_fits, scalar_fits, write_fits}
+use Rattle.task_laws.proofs.Ranges.RangesOfBytes.{Gives, IsGiven, IsStopped, byte_fits, gives_then, of_type, read_fits, either, after_taking}
 use Rattle.task_laws.proofs.Ranges.RangesOfTrees.{CalleesAreHeaded, CallsGive, FlowFits, LaterFits, ReturnFits, TurnFits, calls_give, takes_fits, targets_fit, tree_fits, trees_fit}
-
--- where a test decides
-pub either :
-    {A : Type 0} {Holds : A → State → Type 0} (test : Bool) (one other : Outcome A)
-    → Gives Holds one → Gives Holds other → Gives Holds (if test then one else other)
-either true one other first second = first
-either false one other first second = second
-
--- where one is taken of the budget
-pub after_taking :
-    {A : Type 0} {Holds : A → State → Type 0} (around : Surroundings) (s : State) (go : State → Outcome A)
-    → SourceFits around s
-    → ((t : State) → SourceFits around t → Gives Holds (go t))
-    → Gives Holds (taking_one s go)
-after_taking {A = A} {Holds = Holds} around s go source rest =
-    either (s.budget == 0) (Stopped More s) (go (record s { budget = s.budget - 1 })) IsStopped
-    (rest (record s { budget = s.budget - 1 }) (record { memory = source.memory; frame = source.frame }))
+use Rattle.task_laws.proofs.Ranges.Heads.{begun_fits, turned_fits}
 
 -- the statements of a list from one on
 pub dropped_types : (typed : TypedModule) (within : Within) (count : ℕ) (list : TypedStatements)
@@ -76,18 +59,6 @@ module _ (around : Surroundings) where
       (byte_fits around (InMemory (to % MEMORY_SIZE)) byte t one.0 one.1)
       (λ _ u two. moved_fits count (from + 1) (to + 1) u two))
 
-  pub variable_fits : (head : TypedIteration) (s : State) → SourceFits around s
-      → Gives (λ n t. SourceFits around t) (read_variable around head s)
-  variable_fits head s source =
-      gives_weaker (read_variable around head s)
-      (scalar_fits around head.scalar (place_of around head.variable) s source)
-    where
-      gives_weaker : (outcome : Outcome ℕ)
-          → Gives (λ n t. (n < values_of head.scalar) × SourceFits around t) outcome
-          → Gives (λ n t. SourceFits around t) outcome
-      gives_weaker outcome (IsGiven both) = IsGiven both.1
-      gives_weaker outcome IsStopped = IsStopped
-
 module _ (later : Later) (fits : LaterFits later) (typed : TypedModule) (within : Within)
     (around : Surroundings)
     (program : HasTypes around.program) (headed : CalleesAreHeaded typed around)
@@ -104,15 +75,6 @@ module _ (later : Later) (fits : LaterFits later) (typed : TypedModule) (within 
       → Gives (λ n t. (n < values_of (type_of tree)) × SourceFits around t) (value later around tree s)
   value_is tree s types small source =
       tree_fits later typed within around program.script calls tree s types small source
-
-  -- the rest after a part of a body
-  after_fits : (turn : Turn) (flow : Flow) (s : State)
-      → TurnFits typed within turn
-      → FlowFits within flow × SourceFits around s
-      → FlowIs (after_turn later around turn flow s)
-  after_fits turn Onward s types both = fits.again typed within turn around s program here types both.1
-  after_fits turn (Returned found) s types both = IsGiven both
-  after_fits turn (Jumped label) s types both = IsGiven both
 
   caught_fits : (list : TypedList) (flow : Flow) (s : State)
       → TypesHoldInList typed within list × NumbersFitInList list
@@ -158,122 +120,6 @@ module _ (later : Later) (fits : LaterFits later) (typed : TypedModule) (within 
       by (WithinProcedure number (Some scalar)) is =
           (is.0, λ n less. of_type (type_of tree) scalar n is.1 less)
       by WithinMain is = absurd is
-
-  -- an iterative DO
-  step_fits : (step : Option TypedExpression) (s : State)
-      → IfSome step (TypesHold typed within) → NumbersFitIfSome step → SourceFits around s
-      → Gives (λ n t. SourceFits around t) (step_value later around step s)
-  step_fits None s types small source = IsGiven source
-  step_fits (Some tree) s types small source =
-      by (value later around tree s) (value_is tree s types small source)
-    where
-      by : (outcome : Outcome ℕ)
-          → Gives (λ n t. (n < values_of (type_of tree)) × SourceFits around t) outcome
-          → Gives (λ n t. SourceFits around t) outcome
-      by outcome (IsGiven both) = IsGiven both.1
-      by outcome IsStopped = IsStopped
-
-  stepped_fits : (head : TypedIteration) (body : TypedList) (flow : Flow) (s : State)
-      → TurnFits typed within (LoopTurn (CountHead head) body)
-      → FlowFits within flow × SourceFits around s
-      → FlowIs (stepped later around head body flow s)
-  stepped_fits head body Onward s types both =
-      gives_then (step_value later around head.step s)
-      (λ step t.
-      then_do (read_variable around head t)
-      (λ number u.
-      then_do (write_variable around head (as_type head.scalar (number + step)) u)
-      (λ _ v. next_turn later around head body (number + step) v)))
-      (step_fits head.step s ((types.0).0).3 ((types.0).1).2 both.1)
-      (λ step t one.
-      gives_then (read_variable around head t)
-      (λ number u.
-      then_do (write_variable around head (as_type head.scalar (number + step)) u)
-      (λ _ v. next_turn later around head body (number + step) v))
-      (variable_fits around head t one)
-      (λ number u two.
-      gives_then (write_variable around head (as_type head.scalar (number + step)) u)
-      (λ _ v. next_turn later around head body (number + step) v)
-      (write_fits around head.scalar (place_of around head.variable) (as_type head.scalar (number + step)) u
-      (as_type_fits head.scalar (number + step)) two)
-      (λ _ v three.
-      either (nat_lt (number + step) (values_of head.scalar))
-      (later.again (LoopTurn (CountHead head) body) around v) (Gave Onward v)
-      (fits.again typed within (LoopTurn (CountHead head) body) around v program here types three)
-      (IsGiven (tt, three)))))
-  stepped_fits head body (Returned found) s types both = IsGiven both
-  stepped_fits head body (Jumped label) s types both = IsGiven both
-
-  iterated_fits : (head : TypedIteration) (body : TypedList) (body_done : State → Outcome Flow) (s : State)
-      → TurnFits typed within (LoopTurn (CountHead head) body)
-      → ((v : State) → SourceFits around v → FlowIs (body_done v))
-      → SourceFits around s
-      → FlowIs (iterated later around head body body_done s)
-  iterated_fits head body body_done s types inside source =
-      gives_then (value later around head.last s)
-      (λ last t.
-      then_do (read_variable around head t)
-      (λ number u.
-      if nat_lt last number then Gave Onward u
-      else taking_one u (λ v. then_do (body_done v) (stepped later around head body))))
-      (value_is head.last s ((types.0).0).2 ((types.0).1).1 source)
-      (λ last t one.
-      gives_then (read_variable around head t)
-      (λ number u.
-      if nat_lt last number then Gave Onward u
-      else taking_one u (λ v. then_do (body_done v) (stepped later around head body)))
-      (variable_fits around head t one.1)
-      (λ number u two.
-      either (nat_lt last number) (Gave Onward u)
-      (taking_one u (λ v. then_do (body_done v) (stepped later around head body)))
-      (IsGiven (tt, two))
-      (after_taking around u (λ v. then_do (body_done v) (stepped later around head body)) two
-      (λ v less.
-      gives_then (body_done v) (stepped later around head body) (inside v less)
-      (λ flow w three. stepped_fits head body flow w types three)))))
-
-  turned_fits : (head : TypedHead) (body : TypedList) (body_done : State → Outcome Flow) (s : State)
-      → TurnFits typed within (LoopTurn head body)
-      → ((v : State) → SourceFits around v → FlowIs (body_done v))
-      → SourceFits around s
-      → FlowIs (turned_loop later around head body body_done s)
-  turned_fits (WhileHead condition) body body_done s types inside source =
-      gives_then (value later around condition s)
-      (λ n t.
-      if is_true n
-      then taking_one t
-      (λ u. then_do (body_done u) (after_turn later around (LoopTurn (WhileHead condition) body)))
-      else Gave Onward t)
-      (value_is condition s (types.0).0 (types.0).1 source)
-      (λ n t one.
-      either (is_true n)
-      (taking_one t
-      (λ u. then_do (body_done u) (after_turn later around (LoopTurn (WhileHead condition) body))))
-      (Gave Onward t)
-      (after_taking around t
-      (λ u. then_do (body_done u) (after_turn later around (LoopTurn (WhileHead condition) body))) one.1
-      (λ u less.
-      gives_then (body_done u) (after_turn later around (LoopTurn (WhileHead condition) body)) (inside u less)
-      (λ flow v two. after_fits (LoopTurn (WhileHead condition) body) flow v types two)))
-      (IsGiven (tt, one.1)))
-  turned_fits (CountHead head) body body_done s types inside source =
-      iterated_fits head body body_done s types inside source
-
-  begun_fits : (head : TypedHead) (turns : State → Outcome Flow) (s : State)
-      → TypesHoldInHead typed within head → NumbersFitInHead head
-      → ((t : State) → SourceFits around t → FlowIs (turns t))
-      → SourceFits around s
-      → FlowIs (begun_loop later around head turns s)
-  begun_fits (WhileHead condition) turns s types small rest source = rest s source
-  begun_fits (CountHead head) turns s types small rest source =
-      gives_then (value later around head.first s)
-      (λ first t. then_do (write_variable around head (as_type head.scalar first) t) (λ _ u. turns u))
-      (value_is head.first s types.1 small.0 source)
-      (λ first t one.
-      gives_then (write_variable around head (as_type head.scalar first) t) (λ _ u. turns u)
-      (write_fits around head.scalar (place_of around head.variable) (as_type head.scalar first) t
-      (as_type_fits head.scalar first) one.1)
-      (λ _ u two. rest u two))
 
   mutual
     pub statement_fits : (statement : TypedStatement) (s : State)
@@ -336,10 +182,12 @@ module _ (later : Later) (fits : LaterFits later) (typed : TypedModule) (within 
         (else_fits otherwise t types.2 small.2 one.1))
     statement_fits (DoStatement body) s types small source = list_fits body s types small source
     statement_fits (LoopStatement head body) s types small source =
-        begun_fits head (turned_loop later around head body (λ v. done_list later around body v)) s
+        begun_fits later fits typed within around program here value_is head
+        (turned_loop later around head body (λ v. done_list later around body v)) s
         types.0 small.0
         (λ t one.
-        turned_fits head body (λ v. done_list later around body v) t ((types.0, small.0), types.1, small.1)
+        turned_fits later fits typed within around program here value_is head body
+        (λ v. done_list later around body v) t ((types.0, small.0), types.1, small.1)
         (λ u two. list_fits body u types.1 small.1 two) one) source
     statement_fits (CaseStatement choice statements) s types small source =
         gives_then (value later around choice s) (λ n t. done_case later around statements n t)
@@ -388,7 +236,8 @@ module _ (later : Later) (fits : LaterFits later) (typed : TypedModule) (within 
   pub turn_fits : (turn : Turn) (s : State) → TurnFits typed within turn → SourceFits around s
       → FlowIs (turn_of later turn around s)
   turn_fits (LoopTurn head body) s types source =
-      turned_fits head body (done_list later around body) s types
+      turned_fits later fits typed within around program here value_is head body
+      (done_list later around body) s types
       (λ v inside. list_fits body v types.1 types.2 inside) source
 
   -- the rest of a list from a label on

@@ -1,10 +1,10 @@
 -- What statements need beside the statements in them: their names are known, or one is to blame.
 use Rattle.typing.proofs.Prelude.{◌≡◌, ◌==◌, List, [], ◌∷◌, ◌++◌, Option, None, Some, refl, sym, subst, append_assoc, is_none, flat_map, option_map_or, ScalarType, Identifier, Place, ExpressionTree, ReferenceTree, ArgumentTrees, IterationTree, LoopHeadTree, Binding, Declared, BuiltInName, Move, Procedure, Here, jump_of, uses_of, jumps_to, names_in_expression, names_in_reference, names_in_arguments, names_in_optional, names_in_iteration, names_in_head, TypedStatement, Constants, Known, place_of, count_of_given, Owner, TheModule, OfProcedure, Progress, value, with_constants, destinations, assignment, call_bound, call, return_with, return_from, goto, step, iteration, loop_head, ArgumentCount, CallOfTyped, CallOfNoProcedure, ReturnMismatch, ReturnOutside, Fault, Checked, members_in_expression, members_in_reference, members_in_arguments, members_in_iteration, members_in_head}
-use Rattle.trees.specs.Trees.{WhileHead, CountHead}
 use Rattle.typing.proofs.Names.Meeting.{Meets, meets_ok, meets_fault, meets_then, after_other, before_other, other_required}
 use Rattle.typing.proofs.Names.ChecksWithoutNames.{not_of_names, procedure-other, moved-other, goto-other, counter-other}
 use Rattle.typing.proofs.Names.Bound.{AreKnown, IsUnknown, Walks, names_join, bound-finds}
 use Rattle.typing.proofs.Names.Expressions.{expression-finds, arguments-find, target-finds, arguments_given, call-finds}
+use Rattle.typing.proofs.Heads.{head_says}
 
 -- names are used, and the text is as far as it was
 abbrev pub Uses : {A : Type 0} → (before : Progress) → (names : List Identifier) (members : List Fault)
@@ -167,9 +167,7 @@ iteration-uses tree progress =
 -- the head of a loop
 pub head-uses : (head : LoopHeadTree) (progress : Progress)
     → Uses progress (names_in_head head) (members_in_head head) (loop_head head progress)
-head-uses (WhileHead condition) progress =
-    before_other (value-uses condition progress) λ tested same.
-    meets_ok tt same
-head-uses (CountHead counting) progress =
-    before_other (iteration-uses counting progress) λ counted same.
-    meets_ok tt same
+head-uses head progress =
+    head_says (λ names members result. Uses progress names members result) progress
+    (λ tree make. before_other (value-uses tree progress) λ tested same. meets_ok tt same)
+    (λ tree make. before_other (iteration-uses tree progress) λ counted same. meets_ok tt same) head
