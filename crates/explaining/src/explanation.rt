@@ -4,7 +4,7 @@ use crate::globals::{Declarations, add_mains, add_missing, show_declarations};
 use crate::kept_files::{Content, KeptFile, find_kept, kept_bytes};
 use crate::kinds::as_object;
 use crate::object_names::{add_externals, add_missing_objects, add_objects, add_starts};
-use crate::options::explain_value;
+use crate::options::{command_word, explain_value};
 use crate::page::{Page, Piece};
 use crate::ranges::{add_object, add_ranges};
 use crate::refused::explain_source;
@@ -69,18 +69,21 @@ fn explain_fault(page: &mut Page, seen: &Seen, told: Told) {
     }
 }
 
-// What the end of a run means, by its exit status, where it did not halt; and by whether it was to end before it reads a port
-// past its input.
-fn meaning_of_end(status: u8, until_dry: bool) -> Option<&'static str> {
+// What the end of a run means, by its exit status, where it did not halt; by whether it was to end before it reads a port past
+// its input, and whether it was of object files.
+fn meaning_of_end(status: u8, until_dry: bool, is_of_objects: bool) -> Option<&'static str> {
     match status {
         3 if until_dry => Some(
-            "A port was to be read past its input, or the budget of --limit was used up. See plm explain DRY and plm explain LIMIT",
+            "DRY says that a port was to be read past its input, which may be none, and LIMIT that the budget of --limit was used up. See plm explain DRY and plm explain LIMIT",
         ),
         3 => Some(
             "The budget of --limit was used up: mostly a loop that never ends, as a wait for input. See plm explain LIMIT",
         ),
+        4 if is_of_objects => Some(
+            "ILLEGAL says that the machine met what is no instruction of an 8080: a jump out of the code, code that was written over, or code of a Z80 or an 8085. PORT says that a port failed. See plm explain ILLEGAL and plm explain PORT",
+        ),
         4 => Some(
-            "The machine met what is no instruction, or a port failed: try plm interpret, which stops where the source goes outside. See plm explain ILLEGAL and plm explain PORT",
+            "ILLEGAL says that the machine met what is no instruction: try plm interpret, which stops where the source goes outside. PORT says that a port failed. See plm explain ILLEGAL and plm explain PORT",
         ),
         5 => Some(
             "The program did what the language does not define, right after its last event. See plm explain OUTSIDE",
@@ -134,7 +137,9 @@ pub(crate) fn explanation(
             }
         }
         _ => {
-            if let Some(meaning) = meaning_of_end(status, words.contains(&"--until-dry")) {
+            let until_dry = words.contains(&"--until-dry");
+            let is_of_objects = command_word(words) == "execute";
+            if let Some(meaning) = meaning_of_end(status, until_dry, is_of_objects) {
                 page.sentence(&[Piece::Text(meaning)]);
             }
             if let Some(hint) = hint_of_end(status, words) {

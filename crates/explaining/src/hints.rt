@@ -1,7 +1,9 @@
 //! What is likely wrong at a word of a source that cannot stand where it stands.
 
+use crate::dimensions::said_of_dimension;
 use crate::left_out::{cure_of, cure_of_strange, is_same_name};
-use crate::naming::{awaited_after, find_object};
+use crate::misspelled::{Meant, is_near_do, meant_at, said_of_file};
+use crate::naming::{DECLARING, awaited_after, is_declared, is_known};
 use crate::openers::{Opened, Opener};
 use crate::page::{Page, Piece};
 use crate::statements::{
@@ -38,6 +40,8 @@ pub(crate) enum Hint<'a> {
         base: &'a [u8],
         type_word: &'a [u8],
     },
+    /// A reserved word may be meant by a name.
+    Meant(Meant<'a>),
     /// What this sentence says.
     Said(&'static str),
 }
@@ -59,6 +63,10 @@ const LATE: &str = "Declarations and procedures come before the first statement 
 const NO_MODULE: Hint<'static> = Hint::Said(
     "A source is one module: NAME: DO; before it, and END NAME; after it",
 );
+
+// That an address stands after GO TO.
+const GO_TO_ADDRESS: &str =
+    "GO TO an address: in MON1 or MON2 of CP/M delete it and write EXTERNAL in the heading; for GO TO 0 write CALL MON1(0, 0)";
 
 // The reserved words that may be the last one of a statement.
 const ENDING: [ReservedWord; 11] = [
@@ -89,17 +97,6 @@ const BEGINNING: [ReservedWord; 12] = [
     ReservedWord::Halt,
     ReservedWord::If,
     ReservedWord::Return,
-];
-
-// The words and marks that follow a name in its declaration.
-const DECLARING: [Kind; 7] = [
-    Kind::Mark(Mark::Colon),
-    Kind::Reserved(ReservedWord::Address),
-    Kind::Reserved(ReservedWord::Based),
-    Kind::Reserved(ReservedWord::Byte),
-    Kind::Reserved(ReservedWord::Literally),
-    Kind::Reserved(ReservedWord::Structure),
-    Kind::Reserved(ReservedWord::Label),
 ];
 
 // The types of one word.
@@ -223,9 +220,6 @@ fn hint_of_pair(before: &Word, word: &Word) -> Option<Hint<'static>> {
         (_, Kind::Mark(Mark::AssignSign)) => Some(Hint::Said(
             "An assignment has =, and := stands only in parentheses in an expression",
         )),
-        (Kind::Mark(Mark::LeftParenthesis), Kind::Mark(Mark::RightParenthesis)) => {
-            Some(Hint::Said("Without arguments there are no parentheses"))
-        }
         (before_kind, Kind::Reserved(ReservedWord::Else)) => {
             if before_kind == Kind::Mark(Mark::Semicolon) {
                 Some(Hint::Said(
@@ -238,12 +232,63 @@ fn hint_of_pair(before: &Word, word: &Word) -> Option<Hint<'static>> {
         (Kind::Mark(Mark::LeftParenthesis | Mark::Comma), Kind::Mark(Mark::MinusSign)) => {
             Some(Hint::Said("No negative number here: for -1 write 255, or 65535 of an ADDRESS"))
         }
-        (Kind::Reserved(ReservedWord::Goto), Kind::Number(_)) => Some(Hint::Said(
-            "GO TO an address: in MON1 or MON2 of CP/M delete it and write EXTERNAL in the heading; for GO TO 0 write CALL MON1(0, 0)",
-        )),
+        (Kind::Reserved(ReservedWord::Goto), Kind::Number(_)) => Some(Hint::Said(GO_TO_ADDRESS)),
         (Kind::Mark(Mark::EqualSign), Kind::Mark(Mark::EqualSign)) => {
             Some(Hint::Said("An assignment and a comparison both have one ="))
         }
+        _ => None,
+    }
+}
+
+// What is likely wrong where parentheses hold nothing, by the word before them.
+fn hint_of_nothing(before: &[Word], word: &Word) -> Option<Hint<'static>> {
+    let [earlier @ .., owner, last] = before else {
+        return None;
+    };
+    let is_declaring = match statement_of(earlier) {
+        [first, ..] => first.kind == Kind::Reserved(ReservedWord::Declare),
+        [] => false,
+    };
+    match (last.kind, word.kind, owner.kind) {
+        (Kind::Mark(Mark::LeftParenthesis), Kind::Mark(Mark::RightParenthesis), kind) =>
+            match kind {
+                Kind::Name if is_declaring => Some(Hint::Said(
+                    "A dimension is a number, or * before a list of values",
+                )),
+                Kind::Name => Some(Hint::Said("Without arguments there are no parentheses")),
+                Kind::Reserved(ReservedWord::Procedure) => Some(Hint::Said(
+                    "Without parameters there are no parentheses",
+                )),
+                Kind::Reserved(ReservedWord::At | ReservedWord::Data | ReservedWord::Initial) => {
+                    Some(Hint::Said("A value is missing between the parentheses"))
+                }
+                _ => None,
+            },
+        _ => None,
+    }
+}
+
+// That GO TO comes before an address.
+fn hint_of_go(after: &[Word]) -> Option<Hint<'static>> {
+    match after {
+        [go, to, address, ..]
+            if go.kind == Kind::Reserved(ReservedWord::Go)
+                && to.kind == Kind::Reserved(ReservedWord::To)
+                && matches!(address.kind, Kind::Number(_)) => { Some(Hint::Said(GO_TO_ADDRESS)) }
+        _ => None,
+    }
+}
+
+// That EOF comes before the end of the module.
+fn hint_of_eof(last: &Word, after: &[Word]) -> Option<Hint<'static>> {
+    match after {
+        [eof, ..]
+            if eof.kind != Kind::Reserved(ReservedWord::Eof)
+                || last.kind != Kind::Mark(Mark::Semicolon) => { None }
+        [_] => Some(Hint::Said("EOF is left out, and an END may be missing before it")),
+        [_, next, ..] if next.kind == Kind::Reserved(ReservedWord::End) => Some(Hint::Said(
+            "EOF is left out: delete it",
+        )),
         _ => None,
     }
 }
@@ -272,20 +317,11 @@ fn hint_of_statement(before: &[Word], word: &Word) -> Option<Hint<'static>> {
     }
 }
 
-// Whether a name is declared in words, by its type, its text or its label: a name that comes before one of these.
-fn is_declared(words: &[Word], name: &[u8]) -> bool {
-    let mut is_after = false;
-    for word in words {
-        if is_after && DECLARING.contains(&word.kind) {
-            return true;
-        }
-        is_after = is_same_name(word.text, name);
-    }
-    false
-}
-
 // What to write for a word, where it is one that is left out, or FOREVER comes before it.
 fn hint_of_word(before: &Word, word: &Word) -> Option<Hint<'static>> {
+    if word.kind == Kind::Reserved(ReservedWord::Eof) {
+        return None;
+    }
     let left_out = if before.text.eq_ignore_ascii_case(b"FOREVER") {
         cure_of(word.text).or(cure_of(before.text))
     } else {
@@ -304,7 +340,7 @@ fn strange_at(before: &[Word]) -> Option<&'static str> {
         }
         _ => return None,
     };
-    if is_declared(before, name) || find_object(before, name).is_some() {
+    if is_known(before, name) {
         return None;
     }
     cure_of_strange(name)
@@ -313,6 +349,32 @@ fn strange_at(before: &[Word]) -> Option<&'static str> {
 // What to write for a word of another language, as a hint.
 fn hint_of_strange(before: &[Word]) -> Option<Hint<'static>> {
     Some(Hint::Said(strange_at(before)?))
+}
+
+// What to write for a word that an included file defined, as a hint.
+fn hint_of_file(words: &[Word], count: usize) -> Option<Hint<'static>> {
+    Some(Hint::Said(said_of_file(words, count)?))
+}
+
+// That a reserved word is misspelled.
+fn hint_of_meant<'a>(words: &[Word<'a>], count: usize) -> Option<Hint<'a>> {
+    Some(Hint::Meant(meant_at(words, count)?))
+}
+
+// That the DO of a module is missing or misspelled, where this word stands in its place.
+fn hint_of_module<'a>(before: &[Word], word: &Word<'a>) -> Hint<'a> {
+    match before {
+        [_, colon]
+            if colon.kind == Kind::Mark(Mark::Colon)
+                && word.kind == Kind::Name
+                && is_near_do(word.text) => {
+            Hint::Meant(Meant {
+                word: word.text,
+                meant: "DO",
+            })
+        }
+        _ => NO_MODULE,
+    }
 }
 
 // That a DO has no semicolon at the end of its line.
@@ -335,6 +397,11 @@ fn hint_of_name<'a>(last: &Word, word: &Word<'a>, next: Option<&Word>) -> Option
 // What is likely wrong at the first of the words `after`, by its statement.
 fn hint_of_words(before: &[Word], after: &[Word]) -> Option<Hint<'static>> {
     Some(Hint::Said(said_at(before, after)?))
+}
+
+// What is likely wrong in a dimension, as a hint.
+fn hint_of_dimension(before: &[Word], after: &[Word]) -> Option<Hint<'static>> {
+    Some(Hint::Said(said_of_dimension(before, after)?))
 }
 
 // That a semicolon may be missing before a word on its line.
@@ -479,22 +546,26 @@ fn hint_in_statement<'a>(before: &[Word<'a>], after: &[Word<'a>]) -> Option<Hint
     hint_of_do(before)
         .or(hint_of_name(last, word, next))
         .or(hint_of_words(before, after))
+        .or(hint_of_dimension(before, after))
         .or(hint_of_line(before, word, next))
 }
 
-/// What is likely wrong at a word of a source, with the words before it, it with those after it, and what was open before the
-/// last one of those before it, the outermost first.
+/// What is likely wrong at a word of a source, with all words, those before it, it with those after it, and what was open before
+/// the last one of those before it, the outermost first.
 pub(crate) fn hint_at<'a>(
+    words: &[Word<'a>],
     before: &[Word<'a>],
     word: &Word<'a>,
     after: &[Word<'a>],
     open: &[Opener<'a>],
 ) -> Option<Hint<'a>> {
     let next = after.get(1);
-    let strange = hint_of_strange(before);
+    let strange = hint_of_strange(before)
+        .or(hint_of_file(words, before.len()))
+        .or(hint_of_meant(words, before.len()));
     match before {
         [] => hint_of_first(word, after),
-        [_] | [_, _] => Some(NO_MODULE),
+        [_] | [_, _] => Some(hint_of_module(before, word)),
         [_, _, _, _, ..] if open.is_empty() => {
             Some(Hint::Said(cure_of(word.text).unwrap_or(
                 "The module has ended before: an END may be superfluous, or this is no part of it",
@@ -516,6 +587,9 @@ pub(crate) fn hint_at<'a>(
                 .or(hint_of_end(last, word, open))
                 .or(hint_of_declaration(last, word, open))
                 .or(hint_of_assignment(before, after))
+                .or(hint_of_nothing(before, word))
+                .or(hint_of_go(after))
+                .or(hint_of_eof(last, after))
                 .or(hint_of_pair(last, word))
                 .or(hint_of_statement(before, word));
             let hint = if is_declared(before, word.text) {
@@ -570,6 +644,11 @@ impl Hint<'_> {
                 Piece::Shown(base),
                 Piece::Text(" "),
                 Piece::Shown(type_word),
+            ]),
+            Hint::Meant(Meant { word, meant }) => page.sentence(&[
+                Piece::Text(meant),
+                Piece::Text(" may be meant by "),
+                Piece::Shown(word),
             ]),
             Hint::Said(sentence) => page.sentence(&[Piece::Text(sentence)]),
         }

@@ -9,7 +9,13 @@ fn object_as_source(command: &str) -> &'static str {
         "run" | "interpret" => {
             "An object file, where a source is taken: plm execute runs objects"
         }
-        "list" => "An object file, where a source is taken: plm list takes one object alone",
+        "list" => {
+            "An object file, where a source is taken: plm list takes one object alone, and plm link makes one of several"
+        }
+        "symbols" => "An object file, where a source is taken: plm symbols takes sources alone",
+        "compile" => {
+            "An object file, where a source is taken: plm compile makes one of a source, and plm link makes one of several"
+        }
         _ => {
             "An object file, where a source is taken: plm execute runs objects, and plm list takes one alone"
         }
@@ -28,16 +34,33 @@ pub(crate) fn as_source(bytes: &[u8], command: &str) -> Option<&'static str> {
     }
 }
 
-/// What is said of a file where an object file is taken, if it is a text of Intel HEX, or another that begins with a printed
-/// character or a blank.
+// What a library of ISIS-II begins with: the type of its first record.
+const LIBRARY: u8 = 0x2C;
+
+// Whether bytes are those of a text: printed characters and blanks, tabs, line ends, form feeds and ^Z alone.
+fn is_text(bytes: &[u8]) -> bool {
+    for byte in bytes {
+        match *byte {
+            b' '..=b'~' | b'\t' | b'\n' | b'\r' | 12 | 26 => {}
+            _ => return false,
+        }
+    }
+    !bytes.is_empty()
+}
+
+/// What is said of a file where an object file is taken, if it is a text, of Intel HEX or another, or begins as a library of
+/// ISIS-II.
 pub(crate) fn as_object(bytes: &[u8]) -> Option<&'static str> {
-    match bytes {
-        [b':', digit, ..] if digit.is_ascii_hexdigit() => {
+    match (is_text(bytes), bytes) {
+        (true, [b':', digit, ..]) if digit.is_ascii_hexdigit() => {
             Some("A HEX text, where an object file is taken: no command reads one")
         }
-        [first, ..] if first.is_ascii_graphic() || first.is_ascii_whitespace() => Some(
+        (true, _) => Some(
             "A text, where an object file is taken: plm compile makes one of a source, and plm run takes sources",
         ),
-        _ => None,
+        (false, [LIBRARY, ..]) => Some(
+            "It begins as a library of ISIS-II: there LINK takes a module out, as LINK LIBRARY(MODULE) TO FILE",
+        ),
+        (false, _) => None,
     }
 }

@@ -58,6 +58,32 @@ pub(crate) fn cure_of(word: &[u8]) -> Option<&'static str> {
     said_of(CURES, Name::from_text(word)?.as_slice())
 }
 
+// The built-in procedures that stand in expressions, and OUTPUT.
+const BUILT_IN: &str = "\
+DOUBLE
+HIGH
+INPUT
+LAST
+LENGTH
+LOW
+OUTPUT
+ROL
+ROR
+SHL
+SHR
+SIZE
+";
+
+/// Whether a word is the name of a built-in procedure that stands in expressions, or of OUTPUT.
+pub(crate) fn is_built_in(word: &[u8]) -> bool {
+    for name in BUILT_IN.lines() {
+        if is_same_name(word, name.as_bytes()) {
+            return true;
+        }
+    }
+    false
+}
+
 /// Whether two words of a source are the same name.
 pub(crate) fn is_same_name(word: &[u8], other: &[u8]) -> bool {
     match (Name::from_text(word), Name::from_text(other)) {

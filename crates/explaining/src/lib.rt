@@ -4,6 +4,7 @@
 mod asking;
 mod console;
 mod converted;
+mod dimensions;
 mod explanation;
 mod globals;
 mod high_bytes;
@@ -16,6 +17,7 @@ mod lengths;
 mod lines;
 mod listing;
 mod meanings;
+mod misspelled;
 mod named;
 mod naming;
 mod number_spelling;

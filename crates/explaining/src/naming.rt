@@ -3,6 +3,17 @@
 use crate::left_out::is_same_name;
 use words::{Kind, Mark, ReservedWord, Word};
 
+/// The words and marks that follow a name in its declaration.
+pub(crate) const DECLARING: [Kind; 7] = [
+    Kind::Mark(Mark::Colon),
+    Kind::Reserved(ReservedWord::Address),
+    Kind::Reserved(ReservedWord::Based),
+    Kind::Reserved(ReservedWord::Byte),
+    Kind::Reserved(ReservedWord::Literally),
+    Kind::Reserved(ReservedWord::Structure),
+    Kind::Reserved(ReservedWord::Label),
+];
+
 /// What a name is declared as.
 #[derive(Clone, Copy, PartialEq, Eq)]
 pub(crate) enum Named {
@@ -142,6 +153,23 @@ pub(crate) fn find_object(words: &[Word], name: &[u8]) -> Option<usize> {
         naming.add(word.kind);
     }
     None
+}
+
+/// Whether a name is declared in words, by its type, its text or its label: a name that comes before one of these.
+pub(crate) fn is_declared(words: &[Word], name: &[u8]) -> bool {
+    let mut is_after = false;
+    for word in words {
+        if is_after && DECLARING.contains(&word.kind) {
+            return true;
+        }
+        is_after = is_same_name(word.text, name);
+    }
+    false
+}
+
+/// Whether words declare a name: a variable, a parameter, a label or a procedure.
+pub(crate) fn is_known(words: &[Word], name: &[u8]) -> bool {
+    is_declared(words, name) || find_object(words, name).is_some()
 }
 
 /// The last word that declares a name in a block, which begins with its DO or PROCEDURE: as what is wanted, or for an object

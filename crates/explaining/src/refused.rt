@@ -5,7 +5,7 @@ use crate::explanation::Seen;
 use crate::high_bytes::{Within, add_wrong_byte};
 use crate::hints::{Hint, hint_at, is_around};
 use crate::kinds::as_source;
-use crate::left_out::{cure_of, is_number_without_digit};
+use crate::left_out::{cure_of, is_built_in, is_number_without_digit, is_same_name};
 use crate::lines::{
     has_lone_quote, is_blank, is_number, line_before, numbered_line, show_line, show_place,
 };
@@ -202,6 +202,7 @@ fn explain_word(page: &mut Page, refused: &Refused) {
             let count = refused.before.len().saturating_sub(1);
             let open = refused.open_after(page, refused.before.get(..count).unwrap_or(&[]));
             hint_of_spelling(refused.text, word.start as usize).or(hint_at(
+                refused.words,
                 refused.before,
                 &word,
                 refused.after,
@@ -356,11 +357,21 @@ fn explain_name(page: &mut Page, refused: &Refused) {
     }
 }
 
-// Adds where something of a name is that is not known and names no member, or what to write for it.
+// Adds where something of a name is that is not known and names no member, or what to write for it. A procedure that is called is
+// none of the words that are left out, but for TIME.
 fn explain_unknown(page: &mut Page, refused: &Refused, name: &[u8]) {
+    let is_called = match refused.before {
+        [.., last] => last.kind == Kind::Reserved(ReservedWord::Call),
+        [] => false,
+    };
+    let cure = if is_called && !is_same_name(name, b"TIME") {
+        None
+    } else {
+        cure_of(name)
+    };
     if let Some(at) = find_object(refused.words, name) {
         explain_declared(page, refused, at);
-    } else if let Some(cure) = cure_of(name) {
+    } else if let Some(cure) = cure {
         page.sentence(&[Piece::Text(cure)]);
     } else if let Some(line) = find_named(refused.words, name, true) {
         page.sentence(&[
@@ -372,6 +383,32 @@ fn explain_unknown(page: &mut Page, refused: &Refused, name: &[u8]) {
         explain_location(page, refused, name);
     } else if refused.is_value() {
         explain_name_as_number(page, refused.seen.alloc, name);
+    }
+}
+
+// Adds that a declaration hides the built-in procedure of its name, where that is used.
+fn explain_use(page: &mut Page, refused: &Refused, fault: &typing::Fault) {
+    let Some(word) = refused.word() else {
+        return;
+    };
+    let has_list = match refused.after {
+        [_, next, ..] => next.kind == Kind::Mark(Mark::LeftParenthesis),
+        _ => false,
+    };
+    let is_member = refused.dot() == Some(Dot::Member);
+    let is_function = is_built_in(word.text);
+    let is_move = is_same_name(word.text, b"MOVE");
+    let is_hidden = match fault.cause {
+        typing::Cause::SubscriptMismatch => is_function && has_list && !is_member,
+        typing::Cause::CallOfNoProcedure => is_move,
+        _ => false,
+    };
+    if is_hidden {
+        page.sentence(&[
+            Piece::Text("A declaration of "),
+            Piece::Shown(word.text),
+            Piece::Text(" hides the built-in procedure of its name"),
+        ]);
     }
 }
 
@@ -430,6 +467,7 @@ fn explain_typing(page: &mut Page, refused: &Refused, fault: &typing::Fault) {
         "C11" => explain_name(page, refused),
         "C12" => explain_twice(page, refused),
         "C13" if refused.dot() == Some(Dot::Location) => explain_no_variable(page, refused, fault),
+        "C13" => explain_use(page, refused, fault),
         "C20" => explain_label(page, refused),
         _ => {}
     }

@@ -30,16 +30,16 @@ fn is_boundary(kind: Kind) -> bool {
     }
 }
 
-// Whether a word ends a value.
-fn is_value(kind: Kind) -> bool {
+/// Whether a word ends a value.
+pub(crate) fn is_value(kind: Kind) -> bool {
     match kind {
         Kind::Name | Kind::Number(_) | Kind::String | Kind::Mark(Mark::RightParenthesis) => true,
         _ => false,
     }
 }
 
-// Whether a mark stands between two values of a sum.
-fn is_arithmetic(kind: Kind) -> bool {
+/// Whether a mark stands between two values of a sum.
+pub(crate) fn is_arithmetic(kind: Kind) -> bool {
     match kind {
         Kind::Mark(Mark::PlusSign | Mark::MinusSign | Mark::Asterisk | Mark::Slash) => true,
         _ => false,
@@ -176,8 +176,8 @@ pub(crate) fn statement_of<'w, 'a>(words: &'w [Word<'a>]) -> &'w [Word<'a>] {
     statement
 }
 
-// How many parentheses of words are open.
-fn depth_of(words: &[Word]) -> u32 {
+/// How many parentheses of words are open.
+pub(crate) fn depth_of(words: &[Word]) -> u32 {
     let mut depth = 0_u32;
     for word in words {
         match word.kind {
@@ -189,15 +189,15 @@ fn depth_of(words: &[Word]) -> u32 {
     depth
 }
 
-// The last list in parentheses that is open after words: how many words stand before its parenthesis, and its last item.
+/// The last list in parentheses that is open after words: how many words stand before its parenthesis, and its last item.
 #[derive(Clone, Copy)]
-struct OpenList<'w, 'a> {
-    at: usize,
-    item: &'w [Word<'a>],
+pub(crate) struct OpenList<'w, 'a> {
+    pub(crate) at: usize,
+    pub(crate) item: &'w [Word<'a>],
 }
 
-// The last list in parentheses that is open after words.
-fn open_list<'w, 'a>(words: &'w [Word<'a>]) -> OpenList<'w, 'a> {
+/// The last list in parentheses that is open after words.
+pub(crate) fn open_list<'w, 'a>(words: &'w [Word<'a>]) -> OpenList<'w, 'a> {
     let innermost = depth_of(words);
     let mut depth = 0_u32;
     let mut at = 0;
@@ -254,8 +254,8 @@ fn item_of<'w, 'a>(declare: &'w [Word<'a>]) -> &'w [Word<'a>] {
     item
 }
 
-// Whether words have one of this kind.
-fn has_kind(words: &[Word], kind: Kind) -> bool {
+/// Whether words have one of this kind.
+pub(crate) fn has_kind(words: &[Word], kind: Kind) -> bool {
     for word in words {
         if word.kind == kind {
             return true;
@@ -278,6 +278,11 @@ fn is_typed(item: &[Word]) -> bool {
         }
     }
     false
+}
+
+/// Whether the last item of a DECLARE has its type, or needs none.
+pub(crate) fn is_typed_item(declare: &[Word]) -> bool {
+    is_typed(item_of(declare))
 }
 
 // Whether TO comes in words before the first semicolon.
@@ -571,7 +576,7 @@ impl Spot<'_, '_> {
             Some("What follows AT, INITIAL and DATA stands in parentheses")
         } else if self.is_after(ReservedWord::Literally) {
             Some("The text after LITERALLY stands between quotes")
-        } else if self.is_mark(Mark::EqualSign) && is_typed(item_of(self.statement)) {
+        } else if self.is_mark(Mark::EqualSign) && is_typed_item(self.statement) {
             Some("A first value stands in parentheses after INITIAL: DECLARE A BYTE INITIAL (5)")
         } else {
             None
@@ -717,6 +722,14 @@ impl Spot<'_, '_> {
     // What is wrong in a CALL.
     fn of_call(&self) -> Option<&'static str> {
         match (self.statement, self.word.kind) {
+            ([call, name, ..], Kind::Mark(Mark::Period))
+                if call.kind == Kind::Reserved(ReservedWord::Call)
+                    && name.kind == Kind::Name
+                    && self.depth == 0 => {
+                Some(
+                    "A CALL through a variable is left out: a DO CASE of calls, or ENTER of examples/mixed/README.md",
+                )
+            }
             ([call, name], Kind::Number(_) | Kind::String)
                 if call.kind == Kind::Reserved(ReservedWord::Call) && name.kind == Kind::Name => {
                 Some("The arguments of a call stand in parentheses: CALL P(1)")

@@ -41,6 +41,9 @@ fn cure_of(command: &str, option: &str) -> Option<&'static str> {
             "run" | "interpret" | "execute" | "hex" | "list" | "locate" | "symbols",
             "--org" | "--origin",
         ) => { Some("The address of the code comes after --code, in decimal") }
+        ("explain", "DIVIDE" | "BYTE" | "CONSTANT" | "STACK") => Some(
+            "plm explain takes one word: OUTSIDE, of which it explains each reason",
+        ),
         ("-v", "-v") | (_, "-V") => Some("plm --version prints the version"),
         _ => None,
     }
