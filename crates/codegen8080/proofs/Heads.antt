@@ -18,11 +18,10 @@ use Rattle.treecode.proofs.KeptValues.{known_kept}
 use Rattle.steps8080.proofs.Numbered.{not_both}
 use Rattle.steps8080.proofs.SiteTraits.{number_is}
 unfoldable use Rattle.steps8080.specs.internal.Queries.{number}
-use Rattle.statements8080.specs.internal.Branches.{forever_steps, tested_while_steps, while_labels, while_steps}
+use Rattle.statements8080.specs.internal.Branches.{forever_steps, head_labels, head_steps, tested_while_steps, while_labels, while_steps}
 use Rattle.statements8080.specs.internal.Iterations.{iteration_steps}
 use Rattle.statements8080.specs.internal.Plans.{plain}
 use Rattle.codegen8080.specs.internal.Standing.{ListStands, MoreStand, NoneStand, StepsStand}
-use Rattle.codegen8080.specs.internal.Statements.{head_labels, head_steps}
 use Rattle.codegen8080.proofs.{FormLabels.{FormPlan, ListFirst, NoPartFirst, NoParts, PlanOf, bare_plan, either_plan, finding_plan, holding, iteration_plan}, NamedPlans.{OwnPlan, iteration_own, own_both, own_either, own_finding, wordless}, Outlines.{bare, bare_either, bare_then}, Standing.{both_stand, either_stand, finding_stand, plain_stand}}
 
 -- the statements and the lists in the steps of a loop

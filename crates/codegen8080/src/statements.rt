@@ -3,17 +3,17 @@
 ghost use Rattle.std.specs.Prelude.{◌∷◌, [], OnOk};
 ghost use Rattle.steps8080.specs.declared.step.Task.TheVariants.{Call};
 ghost use Rattle.statements8080.specs.internal.Plans.{PlanAdds, PlanAddsWithLabels, part};
-ghost use Rattle.codegen8080.specs.internal.Statements.{goto_steps, halt_steps, head_labels, head_steps, return_of_steps, returned_value_steps, statement_labels, statement_steps};
+ghost use Rattle.codegen8080.specs.internal.Statements.{goto_steps, halt_steps, return_of_steps, returned_value_steps, statement_labels, statement_steps};
 
 use crate::procedures::plan_return;
 use asm8080::WordForm;
 use exprgen8080::{LabelNumber, Site, Task};
 use isa8080::Instr;
 use statements8080::{
-    Body, Plan, Planned, plan_assignment, plan_case, plan_if, plan_iteration, plan_move, plan_while,
+    Body, Plan, Planned, plan_assignment, plan_case, plan_if, plan_loop, plan_move,
 };
 use std::alloc::AllocError;
-use treecode::{ExpressionNumber, LoopHead, Range, Statement};
+use treecode::{ExpressionNumber, Range, Statement};
 use trees::ScalarType;
 
 // The code ends with HLT.
@@ -72,23 +72,6 @@ fn plan_call(plan: &mut Plan, procedure: u32, arguments: Range) -> Result<(), Al
         },
         0,
     )
-}
-
-// DO WHILE, or an iterative DO.
-fn plan_loop(
-    body: &Body<'_>,
-    site: &Site<'_>,
-    plan: &mut Plan,
-    head: LoopHead,
-    list: Range,
-) -> Result<(), AllocError>
-    ensures { OnOk result (PlanAddsWithLabels plan.old plan.new (head_labels site.now head)
-        (head_steps body.now site.now head list)) }
-{
-    match head {
-        LoopHead::While(condition) => plan_while(site, plan, condition, list),
-        LoopHead::Count(iteration) => plan_iteration(body, site, plan, &iteration, list),
-    }
 }
 
 /// The steps of a statement.

@@ -3,7 +3,10 @@
 use crate::left_out::is_same_name;
 use crate::naming::{DECLARING, is_known};
 use crate::sentences::said_of;
-use crate::statements::{awaits_value, depth_of, has_kind, is_typed_item, is_value, statement_of};
+use crate::statements::{
+    AFTER_DO, awaits_value, comes_after_do, depth_of, has_kind, is_typed_item, is_value,
+    statement_of,
+};
 use sources::Name;
 use words::{Kind, Mark, ReservedWord, Word};
 
@@ -34,9 +37,7 @@ const AFTER_CONDITION: &str = "THEN\nAND\nOR\nXOR\nMOD\n";
 
 const AFTER_BOUND: &str = "TO\nBY\nAND\nOR\nXOR\nMOD\n";
 
-// The words that may stand after DO, and before a value.
-const AFTER_DO: &str = "WHILE\nCASE\n";
-
+// The word that may stand before a value.
 const BEFORE_VALUE: &str = "NOT\n";
 
 // The words that may begin a statement or a declaration, by what comes after them.
@@ -220,7 +221,7 @@ fn words_alone(boundary: Kind, word: Kind) -> &'static str {
             | Kind::Mark(Mark::MinusSign)
             | Kind::Reserved(ReservedWord::Not),
         ) => BEFORE_NUMBER,
-        (_, Kind::Reserved(ReservedWord::While | ReservedWord::Case)) => ONLY_DO,
+        (_, other) if comes_after_do(other) => ONLY_DO,
         (
             Kind::Mark(Mark::Colon),
             Kind::Reserved(

@@ -61,6 +61,17 @@ fn is_relation(kind: Kind) -> bool {
     }
 }
 
+/// The words that may stand after DO, each on a line.
+pub(crate) const AFTER_DO: &str = "WHILE\nCASE\n";
+
+/// Whether a word is one of these.
+pub(crate) fn comes_after_do(kind: Kind) -> bool {
+    match kind {
+        Kind::Reserved(ReservedWord::While | ReservedWord::Case) => true,
+        _ => false,
+    }
+}
+
 // Whether a value comes after a word.
 fn wants_value(kind: Kind) -> bool {
     match kind {

@@ -6,7 +6,7 @@ use Rattle.typed_trees.specs.Weight as typed
 use Rattle.typed_trees.specs.WellTyped.{TypesHoldInHead}
 use Rattle.treecode.specs.declared.statement.LoopHead.{LoopHead}
 use Rattle.treecode.specs.internal.Lowered.{IsCountHead, IsHead, IsWhileHead}
-use Rattle.codegen8080.specs.internal.Statements.{head_steps}
+use Rattle.statements8080.specs.internal.Branches.{head_steps}
 use Rattle.measure_laws.specs.internal.Bounds.{weight_of_expression, weight_of_head, weight_of_iteration}
 use Rattle.measure_laws.proofs.{Bounds.Fitting.{both_fit, closed_fit, either_fit, finding_fits, less_fits, none_fit, then_fit}, Bounds.Iterations.{iteration_fits}, Bounds.Planning.{branch_fits, plain_fits, plains_fit, within_is}, Labels.Binding.{plan_later}}
 

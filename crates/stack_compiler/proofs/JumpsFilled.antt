@@ -1,6 +1,6 @@
 -- Jumps that are filled in after the code that they pass over.
-use Rattle.stack_compiler.proofs.Prelude.{◌≡◌, ℕ, suc, ◌+◌, ◌-◌, List, [], ◌∷◌, ◌++◌, length, set, None, Some, ap, sym, ◌∙◌, arith, append-nil, append_assoc, length-append, set-append_seam, refl, Instruction, Drop, Jump, JumpUnless, LoopBack, Step, TypedHead, TypedIteration, TypedList, LoopStatement, Site, ToRead, ToWrite, choice_code, expression_code, first_code, list_code, loop_code, statement_code, step_code, test_code, value_or, variable_code, passing}
-use Rattle.typed_trees.specs.TypedTrees.{WhileHead, CountHead}
+use Rattle.stack_compiler.proofs.Prelude.{◌≡◌, ℕ, suc, ◌+◌, ◌-◌, List, [], ◌∷◌, ◌++◌, length, set, None, Some, ap, sym, ◌∙◌, arith, append-nil, append_assoc, length-append, set-append_seam, refl, Instruction, Drop, Jump, JumpUnless, LoopBack, Step, TypedHead, TypedIteration, TypedList, LoopStatement, Site, ToRead, ToWrite, choice_code, first_code, list_code, loop_code, statement_code, step_code, test_code, value_or, variable_code, passing}
+use Rattle.typed_trees.specs.TypedTrees.{CountHead}
 use Rattle.stack_compiler.specs.internal.Loops.{stepping_code, turn_ended, turned_back}
 
 after_hole : (front body : List Instruction) (hole : Instruction) (at : ℕ) → at ≡ length front
@@ -74,25 +74,25 @@ module _ (old a b c d new body test : List Instruction) (start count : ℕ) (at 
     (one : a ≡ old ++ (Jump 0 ∷ [])) (two : b ≡ a ++ body)
     (three : c ≡ set b start (Jump (length b - (start + 1)))) (four : d ≡ c ++ test)
     (five : count ≡ length d - (start + 1)) (six : new ≡ d ++ (LoopBack count ∷ [])) where
-  while_d : d ≡ old ++ (Jump (length body) ∷ (body ++ test))
-  while_d =
+  tested_d : d ≡ old ++ (Jump (length body) ∷ (body ++ test))
+  tested_d =
       four
       ∙ ap (λ code. code ++ test)
       (filled Jump old body b c (Jump 0) start at (with_hole old a b body (Jump 0) one two) three)
       ∙ append_assoc old (Jump (length body) ∷ body) test
 
-  while_count : count ≡ length body + length test
-  while_count =
-      five ∙ ap (λ code. length code - (start + 1)) while_d
+  tested_count : count ≡ length body + length test
+  tested_count =
+      five ∙ ap (λ code. length code - (start + 1)) tested_d
       ∙ after_hole old (body ++ test) (Jump (length body)) start at ∙ length-append body test
 
-  while_made : new ≡ old ++ (Jump (length body) ∷ loop_code body test)
-  while_made =
+  tested_made : new ≡ old ++ (Jump (length body) ∷ loop_code body test)
+  tested_made =
       six
-      ∙ ap (λ code. code ++ (LoopBack count ∷ [])) while_d
+      ∙ ap (λ code. code ++ (LoopBack count ∷ [])) tested_d
       ∙ append_assoc old (Jump (length body) ∷ (body ++ test)) (LoopBack count ∷ [])
       ∙ ap (λ code. old ++ (Jump (length body) ∷ code)) (append_assoc body test (LoopBack count ∷ []))
-      ∙ ap (λ passed. old ++ (Jump (length body) ∷ (body ++ (test ++ (LoopBack passed ∷ []))))) while_count
+      ∙ ap (λ passed. old ++ (Jump (length body) ∷ (body ++ (test ++ (LoopBack passed ∷ []))))) tested_count
 
 module _ (old a b c d e f g h new first body stepping last : List Instruction) (start leave count : ℕ)
     (one : a ≡ old ++ first) (at : start ≡ length a) (two : b ≡ a ++ (Jump 0 ∷ [])) (three : c ≡ b ++ body)
@@ -196,13 +196,6 @@ pub loop_made : (site : Site) (head : TypedHead) (body : TypedList) (old a b c :
     → a ≡ old ++ first_code site head → start ≡ length a → b ≡ a ++ (Jump 0 ∷ [])
     → c ≡ b ++ list_code site body
     → turn_ended site head c start ≡ old ++ statement_code site (LoopStatement head body)
-loop_made site (WhileHead condition) body old a b c start one at two three =
-    let test : List Instruction = expression_code site condition in
-    let d : List Instruction = passing c start ++ test in
-    while_made a b c (passing c start) d (turned_back d start) (list_code site body) test start
-    (length d - (start + 1)) at two three refl refl refl refl
-    ∙ ap (λ code. code ++ (Jump (length (list_code site body)) ∷ loop_code (list_code site body) test))
-    (one ∙ append-nil old)
 loop_made site (CountHead head) body old a b c start one at two three =
     let test : List Instruction = test_code site (CountHead head) in
     let d : List Instruction = c ++ stepping_code site head in
@@ -215,3 +208,10 @@ loop_made site (CountHead head) body old a b c start one at two three =
     ∙ ap (λ step. old ++ (first_code site (CountHead head)
     ++ (Jump (length (list_code site body ++ step)) ∷ loop_code (list_code site body ++ step) test)))
     (stepped_is site head)
+loop_made site head body old a b c start one at two three =
+    let test : List Instruction = test_code site head in
+    let d : List Instruction = passing c start ++ test in
+    tested_made a b c (passing c start) d (turned_back d start) (list_code site body) test start
+    (length d - (start + 1)) at two three refl refl refl refl
+    ∙ ap (λ code. code ++ (Jump (length (list_code site body)) ∷ loop_code (list_code site body) test))
+    (one ∙ append-nil old)

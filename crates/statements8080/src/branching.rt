@@ -1,17 +1,18 @@
-//! IF and DO WHILE.
+//! IF and loops.
 
 ghost use Rattle.std.specs.Prelude.{◌≡◌, OnOk};
 ghost use Rattle.steps8080.specs.declared.step.Task.TheVariants as tasks;
 ghost use Rattle.statements8080.specs.internal.Plans.{PlanAdds, PlanAddsWithLabels};
-ghost use Rattle.statements8080.specs.internal.Branches.{either_labels, either_steps, forever_steps, goto_label, has_one_jump, if_labels, if_steps, inner, may_jump_twice, statement_if_any, tested_if_labels, tested_if_steps, tested_while_steps, then_steps, while_labels, while_steps};
+ghost use Rattle.statements8080.specs.internal.Branches.{either_labels, either_steps, forever_steps, goto_label, has_one_jump, head_labels, head_steps, if_labels, if_steps, inner, may_jump_twice, statement_if_any, tested_if_labels, tested_if_steps, tested_while_steps, then_steps, while_labels, while_steps};
 
 use crate::body::Body;
+use crate::iteration::plan_iteration;
 use crate::plan::{Plan, Planned, label_at};
 use asm8080::WordForm;
 use exprgen8080::{LabelNumber, Site, Task};
 use isa8080::Instr;
 use std::alloc::AllocError;
-use treecode::{ExpressionForm, ExpressionNumber, Range, Statement, StatementNumber};
+use treecode::{ExpressionForm, ExpressionNumber, LoopHead, Range, Statement, StatementNumber};
 use trees::{BinaryOperator, UnaryOperator};
 
 // The number of negations and conversions around a condition that are looked through.
@@ -232,8 +233,8 @@ fn plan_while_tested(
     plan.push(Planned::Reaches(true))
 }
 
-/// The steps of DO WHILE.
-pub fn plan_while(
+// The steps of DO WHILE.
+fn plan_while(
     site: &Site<'_>,
     plan: &mut Plan,
     condition: ExpressionNumber,
@@ -251,5 +252,22 @@ pub fn plan_while(
             }
         }
         None => plan_while_tested(plan, condition, list),
+    }
+}
+
+/// The steps of a loop: DO WHILE, or an iterative DO.
+pub fn plan_loop(
+    body: &Body<'_>,
+    site: &Site<'_>,
+    plan: &mut Plan,
+    head: LoopHead,
+    list: Range,
+) -> Result<(), AllocError>
+    ensures { OnOk result (PlanAddsWithLabels plan.old plan.new (head_labels site.now head)
+        (head_steps body.now site.now head list)) }
+{
+    match head {
+        LoopHead::While(condition) => plan_while(site, plan, condition, list),
+        LoopHead::Count(iteration) => plan_iteration(body, site, plan, &iteration, list),
     }
 }

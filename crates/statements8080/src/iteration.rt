@@ -609,7 +609,7 @@ fn plan_turns(
 }
 
 /// The steps of an iterative DO. The variable gets its first value even without a turn.
-pub fn plan_iteration(
+pub(crate) fn plan_iteration(
     body: &Body<'_>,
     site: &Site<'_>,
     plan: &mut Plan,

@@ -1,5 +1,5 @@
--- The steps of each statement. Those that are not given here are in Assignments, Branches, Cases, Iterations
--- and Moves of statements8080.
+-- The steps of each statement. Those that are not given here are in Assignments, Branches, Cases and Moves of
+-- statements8080.
 use Rattle.std.specs.Prelude.{ℕ, false, List, [], ◌∷◌, ◌++◌, Option, Some}
 use Rattle.isa8080.specs.declared.instr.Instr.TheVariants.{Hlt}
 use Rattle.asm8080.specs.declared.item.WordForm.TheVariants.{Jump}
@@ -7,10 +7,8 @@ use Rattle.trees.specs.declared.declaration.ScalarType.{ScalarType}
 use Rattle.trees.specs.declared.declaration.ScalarType.TheVariants as scalars
 use Rattle.treecode.specs.declared.expression.ExpressionNumber.{ExpressionNumber}
 use Rattle.treecode.specs.declared.lists.Range.{Range}
-use Rattle.treecode.specs.declared.statement.LoopHead.{LoopHead}
 use Rattle.treecode.specs.declared.statement.Statement.{Statement}
 use Rattle.treecode.specs.declared.statement.Statement.TheVariants.{Label, Null, Assignment, Call, Move, Return, Halt, Goto, If, Do, Loop, Case}
-use Rattle.treecode.specs.internal.Lowered.{for_head}
 use Rattle.steps8080.specs.declared.step.LabelNumber.{LabelNumber}
 use Rattle.steps8080.specs.declared.step.Task.TheVariants as tasks
 use Rattle.steps8080.specs.declared.sites.site.Site.{Site}
@@ -19,9 +17,8 @@ use Rattle.statements8080.specs.declared.plan.Planned.{Planned}
 use Rattle.statements8080.specs.declared.plan.Planned.TheVariants.{List as ListOf, Reaches}
 use Rattle.statements8080.specs.internal.Assignments.{assignment_steps}
 use Rattle.statements8080.specs.internal.Bodies.{body_label}
-use Rattle.statements8080.specs.internal.Branches.{if_labels, if_steps, while_labels, while_steps}
+use Rattle.statements8080.specs.internal.Branches.{head_labels, head_steps, if_labels, if_steps}
 use Rattle.statements8080.specs.internal.Cases.{case_labels, case_steps}
-use Rattle.statements8080.specs.internal.Iterations.{iteration_labels, iteration_steps}
 use Rattle.statements8080.specs.internal.Moves.{move_steps}
 use Rattle.statements8080.specs.internal.Plans.{jump, mark, part, plain}
 use Rattle.codegen8080.specs.internal.Procedures.{return_steps}
@@ -44,18 +41,6 @@ returned_value_steps value result = []
 unfoldable pub return_of_steps : Body → Option ExpressionNumber → List Planned
 return_of_steps body value =
     returned_value_steps value body.procedure.now.result ++ (return_steps body ++ (Reaches false ∷ []))
-
--- The steps of a loop. DO WHILE: a test by which the code goes around the statements, and a jump back.
--- Iterative DO: a counter, a test of it, the statements, a step, and a jump back.
-abbrev pub head_steps : Body → Site → LoopHead → Range → (first : ℕ) → List Planned
-head_steps body site head list first =
-    for_head (λ condition. while_steps site condition list first)
-    (λ iteration. iteration_steps body site iteration list first) head
-
--- the number of labels that they take
-abbrev pub head_labels : Site → LoopHead → ℕ
-head_labels site head =
-    for_head (λ condition. while_labels site condition) (λ iteration. iteration_labels site iteration) head
 
 -- the steps of a statement, with consecutive labels from `first` on
 unfoldable pub statement_steps : Body → Site → Statement → (first : ℕ) → List Planned

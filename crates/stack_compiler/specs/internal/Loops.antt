@@ -1,6 +1,6 @@
 -- The parts of a loop as the code makes them.
 use Rattle.std.specs.Prelude.{ℕ, ◌+◌, ◌-◌, List, [], ◌∷◌, ◌++◌, length, slice_set}
-use Rattle.typed_trees.specs.TypedTrees.{TypedIteration, TypedHead, WhileHead, CountHead}
+use Rattle.typed_trees.specs.TypedTrees.{TypedIteration, TypedHead, CountHead}
 use Rattle.stack_code.specs.declared.instruction.Instruction.{Instruction}
 use Rattle.stack_code.specs.declared.instruction.Instruction.TheVariants.{Drop, JumpUnless, LoopBack, Step}
 use Rattle.stack_code.specs.internal.Code.{Site, ToRead, ToWrite, test_code, value_or, variable_code}
@@ -28,10 +28,11 @@ tested site head code start = turned_back (passing code start ++ test_code site 
 abbrev pub leaving : List Instruction → (at : ℕ) → List Instruction
 leaving code at = slice_set code at (JumpUnless (length code - (at + 1)))
 
--- after the body of a loop: the step of an iterative DO, which may leave the loop, and the test
+-- after the body of a loop: the step of an iterative DO, which may leave the loop, and the test; of another head the test
+-- alone
 abbrev pub turn_ended : Site → TypedHead → List Instruction → (start : ℕ) → List Instruction
-turn_ended site (WhileHead condition) code start = tested site (WhileHead condition) code start
 turn_ended site (CountHead head) code start =
     leaving
     (tested site (CountHead head) ((code ++ stepping_code site head) ++ (JumpUnless 0 ∷ [])) start)
     (length (code ++ stepping_code site head))
+turn_ended site head code start = tested site head code start

@@ -1,4 +1,4 @@
--- The code of IF and DO WHILE.
+-- The code of IF and of loops.
 use Rattle.std.specs.Prelude.{ℕ, zero, suc, ◌%◌, Bool, true, false, not, if◌then◌else◌, nat_eq, nat_lt, List, [], ◌∷◌, ◌++◌, Option, Some, None}
 use Rattle.isa8080.specs.declared.instr.Instr.TheVariants.{Nop}
 use Rattle.asm8080.specs.declared.item.WordForm.TheVariants.{Jump}
@@ -9,9 +9,11 @@ use Rattle.treecode.specs.declared.expression.ExpressionForm.{ExpressionForm}
 use Rattle.treecode.specs.declared.expression.ExpressionForm.TheVariants.{Binary, Conversion, Function, Unary}
 use Rattle.treecode.specs.declared.expression.ExpressionNumber.{ExpressionNumber}
 use Rattle.treecode.specs.declared.lists.Range.{Range}
+use Rattle.treecode.specs.declared.statement.LoopHead.{LoopHead}
 use Rattle.treecode.specs.declared.statement.StatementNumber.{StatementNumber}
 use Rattle.treecode.specs.declared.statement.Statement.{Statement as TreeStatement}
 use Rattle.treecode.specs.declared.statement.Statement.TheVariants.{Goto}
+use Rattle.treecode.specs.internal.Lowered.{for_head}
 use Rattle.treecode.specs.internal.Queries.{statement}
 use Rattle.steps8080.specs.declared.step.LabelNumber.{LabelNumber}
 use Rattle.steps8080.specs.declared.step.Task.TheVariants as tasks
@@ -25,6 +27,7 @@ use Rattle.statements8080.specs.declared.plan.Planned.{Planned}
 use Rattle.statements8080.specs.declared.plan.Planned.TheVariants.{Jumped, JumpOn, List as ListOf, Meet, Reaches, Statement, Turn}
 use Rattle.statements8080.specs.internal.Plans.{jump, mark, nth_label, part, plain}
 use Rattle.statements8080.specs.internal.Bodies.{body_label}
+use Rattle.statements8080.specs.internal.Iterations.{iteration_labels, iteration_steps}
 
 -- the expression inside NOT or a conversion of this form
 abbrev pub inner_of_form : ExpressionForm → Option ExpressionNumber
@@ -205,3 +208,15 @@ while_labels site condition = elim (number site condition) [
   | Some known ↦ if nat_eq (known % 2) 1 then 1 else 0
   | None ↦ 2
 ]
+
+-- The steps of a loop. DO WHILE: a test by which the code goes around the statements, and a jump back.
+-- Iterative DO: a counter, a test of it, the statements, a step, and a jump back.
+abbrev pub head_steps : Body → Site → LoopHead → Range → (first : ℕ) → List Planned
+head_steps body site head list first =
+    for_head (λ condition. while_steps site condition list first)
+    (λ iteration. iteration_steps body site iteration list first) head
+
+-- the number of labels that they take
+abbrev pub head_labels : Site → LoopHead → ℕ
+head_labels site head =
+    for_head (λ condition. while_labels site condition) (λ iteration. iteration_labels site iteration) head
