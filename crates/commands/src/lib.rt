@@ -21,5 +21,3 @@ mod runs;
 mod showing;
 
 pub use console::run_command;
-pub use object_commands::{JUMP_SIZE, MEMORY_SIZE, ObjectModule, Segment, link_records, read};
-pub use tool::compile;

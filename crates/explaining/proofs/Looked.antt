@@ -1,5 +1,5 @@
 -- Files that are looked for one after another.
-use Rattle.explaining.proofs.Prelude.{◌≡◌, ◌≤◌, ◌<◌, ◌+◌, ◌-◌, ℕ, zero, suc, min, List, Option, length, take, drop, refl, arith, length-take, length-drop, Text, Failure, Fault, Memory, Counts, Directory, KeepsFiles, files_stay, stays_on, Ends, EndsExplained, Grows, Looks}
+use Rattle.explaining.proofs.Prelude.{◌≡◌, ◌≤◌, ◌<◌, ◌+◌, ◌-◌, ℕ, zero, suc, min, List, Option, length, take, drop, refl, arith, length-take, length-drop, Failure, Fault, Memory, Counts, Directory, KeepsFiles, files_stay, stays_on, Looks}
 
 -- so many of all are left, and the others were looked for
 pub record LookedSoFar (all rest : ℕ) (first now : Option Directory) (before after : ℕ) : Type 0 where
@@ -51,12 +51,3 @@ pub not_down : {F : Type 0} (failure : Failure F) (before after : ℕ) → Count
     → min before 18446744073709551615 ≤ after
 not_down (Fault fault) before after counted = omega (arith, counted)
 not_down Memory before after counted = omega (arith, counted)
-
-pub explained : (words : List Text) (tables status : ℕ) (files ended new : Option Directory)
-    (before counted after : ℕ) (err_old left err_new out_old out_new : Option (List ℕ))
-    → Ends words status files ended before counted err_old left out_old out_new
-    → Looks tables ended new counted after → Grows left err_new
-    → EndsExplained words tables status files new before after err_old err_new out_old out_new
-explained words tables status files ended new before counted after err_old left err_new out_old
-    out_new ends looks grows =
-    record { left = left; ended = ended; counted = counted; ends = ends; looks = looks; grows = grows }

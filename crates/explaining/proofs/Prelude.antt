@@ -2,8 +2,4 @@
 pub use Rattle.std.proofs.Common.{List, Option, arith, drop, length, length-drop, length-take, min, refl, suc, take, zero, ℕ, ◌++◌, ◌+◌, ◌-◌, ◌<◌, ◌≡◌, ◌≤◌}
 pub use Rattle.host.proofs.FilesRead.{files_stay, stays_on}
 pub use Rattle.host.specs.{Files.{Counts, Directory, KeepsFiles}, Outcome.{Failure, TheVariants.{Fault, Memory}}}
-pub use Rattle.clap.specs.{Walk.{texts}, Words.{Text}}
-pub use Rattle.explaining.specs.Asking.{asks, asks_after, plain_after, plain_words, table_count, tables_after}
-pub use Rattle.explaining.specs.Ending.{Ends, EndsExplained}
-pub use Rattle.explaining.specs.Growing.{Grows}
 pub use Rattle.explaining.specs.Looking.{Looks}

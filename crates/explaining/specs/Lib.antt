@@ -1,4 +1,2 @@
-pub mod Asking
 pub mod Growing
 pub mod Looking
-pub mod Ending

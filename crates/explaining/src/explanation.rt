@@ -1,7 +1,12 @@
 //! What is printed of how a command ended.
 
+ghost use Rattle.std.specs.Prelude.{length};
+ghost use Rattle.explaining.specs.Growing.{Grows};
+ghost use Rattle.explaining.specs.Looking.{Looks};
+
 use crate::globals::{Declarations, add_mains, add_missing, show_declarations};
-use crate::kept_files::{Content, KeptFile, find_kept, kept_bytes};
+use crate::kept_files::{Content, KeptFile, KeptFiles, find_kept, kept_bytes};
+use crate::kept_lines::KeptLines;
 use crate::kinds::as_object;
 use crate::object_names::{add_externals, add_missing_objects, add_objects, add_starts};
 use crate::options::{command_word, explain_value};
@@ -12,7 +17,9 @@ use crate::told::{Told, told_in};
 use crate::twice::add_named_twice;
 use crate::unwritten::cause_of_file;
 use crate::wrong_options::cure_of_option;
+use host::{Files, write_bytes};
 use std::alloc::Global;
+use std::io::Write;
 
 /// What is looked at beside the line of a fault: the words of the command line, the names of tables of lines, and the files
 /// that were read.
@@ -102,8 +109,8 @@ fn hint_of_end(status: u8, words: &[&str]) -> Option<&'static str> {
     }
 }
 
-/// Whether a fault in a line of a source was told, by the status of a command and what it printed on standard error.
-pub(crate) fn is_of_line(status: u8, printed: &[u8]) -> bool {
+// Whether a fault in a line of a source was told, by the status of a command and what it printed on standard error.
+fn is_of_line(status: u8, printed: &[u8]) -> bool {
     match told_in(printed) {
         Some(told) => {
             (status == 1 || status == 2) && matches!(told.number.as_bytes(), [b'C', ..])
@@ -112,9 +119,9 @@ pub(crate) fn is_of_line(status: u8, printed: &[u8]) -> bool {
     }
 }
 
-/// What is said of how a command ended, by its words, the names of tables of lines, the files that were read, its status, and
-/// what it printed on standard error.
-pub(crate) fn explanation(
+// What is said of how a command ended, by its words, the names of tables of lines, the files that were read, its status, and
+// what it printed on standard error.
+fn explanation(
     alloc: Global,
     words: &[&str],
     tables: &[&str],
@@ -148,4 +155,40 @@ pub(crate) fn explanation(
         }
     }
     page
+}
+
+/// Prints on `err` how the command of these words ended, from what is kept of it: the files that it read and the lines that it
+/// printed. The tables of these names are looked for first, where a fault in a line of a source was told. Where memory runs out,
+/// nothing is printed.
+pub fn explain<F: Files, E: Write>(
+    alloc: Global,
+    words: &[&str],
+    tables: &[&str],
+    files: &mut KeptFiles<F>,
+    status: u8,
+    err: &mut KeptLines<E>,
+)
+    ensures looks { Looks (length tables.now) (F.files files.old.inner) (F.files files.new.inner)
+        (F.failures files.old.inner) (F.failures files.new.inner) }
+    ensures grows { Grows (E.contents err.old.inner) (E.contents err.new.inner) }
+{
+    look_for_all(is_of_line(status, err.kept.as_slice()), tables, files);
+    let (kept, printed) = (files.kept.as_slice(), err.kept.as_slice());
+    let page = explanation(alloc, words, tables, kept, status, printed);
+    let _ = write_bytes(err, page.bytes());
+}
+
+// Looks for files, if they are wanted.
+#[tactic(auto, using(crate::proofs::Looked::looking_begun, crate::proofs::Looked::looking_ended, crate::proofs::Looked::looks_none))]
+fn look_for_all<F: Files>(are_wanted: bool, names: &[&str], files: &mut KeptFiles<F>)
+    ensures { Looks (length names.now) (F.files files.old.inner) (F.files files.new.inner)
+        (F.failures files.old.inner) (F.failures files.new.inner) }
+{
+    if are_wanted {
+        let mut rest = names;
+        while let [name, more @ ..] = rest {
+            files.look_for(name);
+            rest = more;
+        }
+    }
 }

@@ -31,7 +31,7 @@ pub(crate) struct KeptFile {
 pub struct KeptFiles<F> {
     inner: F,
     alloc: Global,
-    pub(crate) is_keeping: bool,
+    is_keeping: bool,
     pub(crate) kept: Vec<KeptFile>,
 }
 
@@ -64,6 +64,13 @@ impl<F> KeptFiles<F> {
             is_keeping: false,
             kept: Vec::new(alloc),
         }
+    }
+
+    /// From now on what is read is kept.
+    pub fn keep(&mut self)
+        ensures { self.new.inner ≡ self.old.inner }
+    {
+        self.is_keeping = true;
     }
 
     /// The files that were given.

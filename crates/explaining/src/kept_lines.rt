@@ -11,7 +11,7 @@ use std::io::Write;
 #[derive(Drop)]
 pub struct KeptLines<E> {
     inner: E,
-    pub(crate) is_keeping: bool,
+    is_keeping: bool,
     pub(crate) kept: Vec<u8>,
 }
 
@@ -25,6 +25,13 @@ impl<E> KeptLines<E> {
             is_keeping: false,
             kept: Vec::new(alloc),
         }
+    }
+
+    /// From now on what is written is kept.
+    pub fn keep(&mut self)
+        ensures { self.new.inner ≡ self.old.inner }
+    {
+        self.is_keeping = true;
     }
 
     /// The writer that was given.

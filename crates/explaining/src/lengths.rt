@@ -2,8 +2,9 @@
 
 use crate::kept_files::{KeptFile, kept_bytes};
 use crate::kinds::OBJECT;
-use commands::{ObjectModule, Segment, compile, link_records, read};
+use object_commands::{ObjectModule, Segment, link_records, read};
 use std::alloc::Global;
+use tool::compile;
 
 /// How many bytes the code and the data of a program have. A sum stops at 4,294,967,295.
 #[derive(Clone, Copy)]

@@ -1,8 +1,6 @@
-//! Commands that are carried out, and explained where they are refused.
+//! What is printed of how a command ended, from its words, the files that it read and what it printed.
 #![tactic(auto)]
 
-mod asking;
-mod console;
 mod converted;
 mod dimensions;
 mod explanation;
@@ -38,8 +36,6 @@ mod twice;
 mod unwritten;
 mod wrong_options;
 
-pub use commands::run_command;
-pub use console::run_words;
-pub use host::HostFiles;
+pub use explanation::explain;
 pub use kept_files::KeptFiles;
 pub use kept_lines::KeptLines;

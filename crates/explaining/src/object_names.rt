@@ -4,7 +4,7 @@ use crate::explanation::Seen;
 use crate::globals::Shared;
 use crate::kept_files::{Content, KeptFile};
 use crate::page::{MARGIN, Page, Piece};
-use commands::{ObjectModule, read};
+use object_commands::{ObjectModule, read};
 use sources::Name;
 use std::alloc::{AllocError, Global};
 

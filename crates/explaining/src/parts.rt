@@ -1,7 +1,7 @@
 //! The parts of a program in memory, and how they are told.
 
 use crate::page::{Page, Piece};
-use commands::MEMORY_SIZE;
+use object_commands::MEMORY_SIZE;
 
 /// A part of a program: its name, with a word before it or none, the first of its addresses, and the one after its last.
 #[derive(Clone, Copy)]

@@ -7,7 +7,7 @@ use crate::lengths::{Lengths, lengths_of};
 use crate::page::Page;
 use crate::parts::{Part, add_lines, add_meetings, add_meetings_of, add_passing};
 use command_line::{Order, PlanTexts, command};
-use commands::JUMP_SIZE;
+use object_commands::JUMP_SIZE;
 use sources::read_source;
 use typed_trees::{AtAddress, Home, TypedObject};
 

@@ -2,7 +2,7 @@
 //! `run_words`.
 #![tactic(auto)]
 
-use explaining::{HostFiles, KeptFiles, KeptLines, run_words};
+use explained_commands::{HostFiles, KeptFiles, KeptLines, run_words};
 use std::io::Write;
 use std::process::ExitCode;
 use std::{env, io, rt};

@@ -4,7 +4,7 @@ use crate::memory_files::{File, MemoryFiles};
 use crate::page::Page;
 use crate::texts::Bytes;
 use anyhow::Result;
-use explaining::{KeptFiles, KeptLines, run_words};
+use explained_commands::{KeptFiles, KeptLines, run_words};
 use std::alloc::Global;
 
 /// A command line as far as it was read, with the line of standard input on which it stands.

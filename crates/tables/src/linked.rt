@@ -5,7 +5,7 @@
 use crate::block::Block;
 use crate::memory_files::MemoryFiles;
 use command_line::{Action, Order, PlanTexts, ProgramOrder, command};
-use explaining::run_command;
+use explained_commands::run_command;
 use hex80::write_hex;
 use host::read_files;
 use std::alloc::Global;

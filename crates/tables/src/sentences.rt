@@ -3,7 +3,7 @@
 use crate::memory_files::MemoryFiles;
 use crate::page::Page;
 use command_line::ValueFault;
-use explaining::run_command;
+use explained_commands::run_command;
 use host::{Failure, FileFault};
 use link::LinkFault;
 use locate::LocateFault;

@@ -4,7 +4,7 @@ use crate::memory_files::{File, MemoryFiles};
 use crate::objects::MERGED;
 use crate::page::Page;
 use crate::readers::ShortWriter;
-use explaining::run_command;
+use explained_commands::run_command;
 use std::alloc::Global;
 
 // A command, its words, the name of its file and the bytes of that, and what is printed.

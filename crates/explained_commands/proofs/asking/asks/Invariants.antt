@@ -1,5 +1,5 @@
-use Rattle.explaining.proofs.Prelude.{◌≡◌, length, texts, asks, asks_after}
-use Rattle.explaining.proofs.asking.asks.Given as goal
+use Rattle.explained_commands.proofs.Prelude.{◌≡◌, length, texts, asks, asks_after}
+use Rattle.explained_commands.proofs.asking.asks.Given as goal
 
 -- the words that are left ask just where all do
 abbrev pub invariant-loop-rest : goal.invariant-loop-rest

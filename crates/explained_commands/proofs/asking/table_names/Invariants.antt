@@ -1,5 +1,5 @@
-use Rattle.explaining.proofs.Prelude.{◌≡◌, ◌+◌, length, texts, table_count, tables_after}
-use Rattle.explaining.proofs.asking.table_names.Given as goal
+use Rattle.explained_commands.proofs.Prelude.{◌≡◌, ◌+◌, length, texts, table_count, tables_after}
+use Rattle.explained_commands.proofs.asking.table_names.Given as goal
 
 -- what was added, with what the words that are left name, is what all name
 abbrev pub invariant-loop-rest : goal.invariant-loop-rest

@@ -2,17 +2,13 @@
 
 ghost use Rattle.std.specs.Prelude.{◌≡◌, false, true, length, IfOk, OnErr};
 ghost use Rattle.clap.specs.Walk.{texts};
-ghost use Rattle.explaining.specs.Asking.{asks, plain_words, table_count};
-ghost use Rattle.explaining.specs.Ending.{Ends, EndsExplained};
-ghost use Rattle.explaining.specs.Growing.{Grows};
-ghost use Rattle.explaining.specs.Looking.{Looks};
+ghost use Rattle.explained_commands.specs.Asking.{asks, plain_words, table_count};
+ghost use Rattle.explained_commands.specs.Ending.{Ends, EndsExplained};
 
 use crate::asking::{asks, plain_words, table_names};
-use crate::explanation::{explanation, is_of_line};
-use crate::kept_files::KeptFiles;
-use crate::kept_lines::KeptLines;
 use commands::run_command;
-use host::{Files, write_bytes};
+use explaining::{KeptFiles, KeptLines, explain};
+use host::Files;
 use std::alloc::{AllocError, Global};
 use std::io::Write;
 
@@ -66,7 +62,7 @@ fn run_whole<F: Files, O: Write, E: Write>(
 }
 
 // Carries out words, and explains how they ended, with tables of these names.
-#[tactic(auto, using(crate::proofs::Looked::explained))]
+#[tactic(auto, using(crate::proofs::Explained::explained))]
 fn run_explained<F: Files, O: Write, E: Write>(
     alloc: Global,
     words: &[&str],
@@ -80,43 +76,9 @@ fn run_explained<F: Files, O: Write, E: Write>(
         (F.failures files.old.inner) (F.failures files.new.inner)
         (E.contents err.old.inner) (E.contents err.new.inner) (O.contents out.old) (O.contents out.new) }
 {
-    files.is_keeping = true;
-    err.is_keeping = true;
+    files.keep();
+    err.keep();
     let status = run_whole(alloc, words, files, out, err);
     explain(alloc, words, tables, files, status, err);
     status
-}
-
-// Prints how a command ended, from what is kept of it: the files that it read and the lines that it printed.
-fn explain<F: Files, E: Write>(
-    alloc: Global,
-    words: &[&str],
-    tables: &[&str],
-    files: &mut KeptFiles<F>,
-    status: u8,
-    err: &mut KeptLines<E>,
-)
-    ensures looks { Looks (length tables.now) (F.files files.old.inner) (F.files files.new.inner)
-        (F.failures files.old.inner) (F.failures files.new.inner) }
-    ensures grows { Grows (E.contents err.old.inner) (E.contents err.new.inner) }
-{
-    look_for_all(is_of_line(status, err.kept.as_slice()), tables, files);
-    let (kept, printed) = (files.kept.as_slice(), err.kept.as_slice());
-    let page = explanation(alloc, words, tables, kept, status, printed);
-    let _ = write_bytes(err, page.bytes());
-}
-
-// Looks for files, if they are wanted.
-#[tactic(auto, using(crate::proofs::Looked::looking_begun, crate::proofs::Looked::looking_ended, crate::proofs::Looked::looks_none))]
-fn look_for_all<F: Files>(are_wanted: bool, names: &[&str], files: &mut KeptFiles<F>)
-    ensures { Looks (length names.now) (F.files files.old.inner) (F.files files.new.inner)
-        (F.failures files.old.inner) (F.failures files.new.inner) }
-{
-    if are_wanted {
-        let mut rest = names;
-        while let [name, more @ ..] = rest {
-            files.look_for(name);
-            rest = more;
-        }
-    }
 }

@@ -1,5 +1,5 @@
 use Rattle.explaining.proofs.{Prelude.{length}, Looked.{LookedSoFar}}
-use Rattle.explaining.proofs.console.look_for_all.Given as goal
+use Rattle.explaining.proofs.explanation.look_for_all.Given as goal
 
 -- of all files those before the ones that are left were looked for
 abbrev pub invariant-loop-rest : goal.invariant-loop-rest

@@ -2,7 +2,7 @@
 
 ghost use Rattle.std.specs.Prelude.{◌≡◌, length, IfOk};
 ghost use Rattle.clap.specs.Walk.{texts};
-ghost use Rattle.explaining.specs.Asking.{asks, is_asking, names_table, plain_words, table_count};
+ghost use Rattle.explained_commands.specs.Asking.{asks, is_asking, names_table, plain_words, table_count};
 
 use std::alloc::{AllocError, Global};
 

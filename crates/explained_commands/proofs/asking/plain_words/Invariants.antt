@@ -1,5 +1,5 @@
-use Rattle.explaining.proofs.Prelude.{◌≡◌, ◌++◌, length, texts, plain_after, plain_words}
-use Rattle.explaining.proofs.asking.plain_words.Given as goal
+use Rattle.explained_commands.proofs.Prelude.{◌≡◌, ◌++◌, length, texts, plain_after, plain_words}
+use Rattle.explained_commands.proofs.asking.plain_words.Given as goal
 
 -- what was added, with what the words that are left add, is what all add
 abbrev pub invariant-loop-rest : goal.invariant-loop-rest

@@ -1,5 +1,5 @@
 use Rattle.explaining.proofs.Looked.{one_more}
-use Rattle.explaining.proofs.console.look_for_all.Goals as goal
+use Rattle.explaining.proofs.explanation.look_for_all.Goals as goal
 
 pub loop-rest-preserved : goal.loop-rest-preserved
 loop-rest-preserved g c =

@@ -1,0 +1,2 @@
+mod Prelude
+pub mod Explained
