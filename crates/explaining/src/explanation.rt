@@ -4,6 +4,7 @@ ghost use Rattle.std.specs.Prelude.{length};
 ghost use Rattle.explaining.specs.Growing.{Grows};
 ghost use Rattle.explaining.specs.Looking.{Looks};
 
+use crate::faulty_records::add_faulty_record;
 use crate::globals::{Declarations, add_mains, add_missing, show_declarations};
 use crate::kept_files::{Content, KeptFile, KeptFiles, find_kept, kept_bytes};
 use crate::kept_lines::KeptLines;
@@ -51,6 +52,7 @@ fn explain_program(page: &mut Page, seen: &Seen, told: Told) {
         [b'J', b'5'] => show_declarations(page, seen, name, Declarations::At),
         [b'L', b'1' | b'2'] => add_objects(page, seen, name),
         [b'L', b'4'] => add_starts(page, seen),
+        [b'O', ..] => add_faulty_record(page, seen, told.place),
         [b'P', b'3'] => add_externals(page, seen),
         _ => {}
     }

@@ -37,8 +37,8 @@ pub(crate) fn as_source(bytes: &[u8], command: &str) -> Option<&'static str> {
 // What a library of ISIS-II begins with: the type of its first record.
 const LIBRARY: u8 = 0x2C;
 
-// Whether bytes are those of a text: printed characters and blanks, tabs, line ends, form feeds and ^Z alone.
-fn is_text(bytes: &[u8]) -> bool {
+/// Whether bytes are those of a text: printed characters and blanks, tabs, line ends, form feeds and ^Z alone.
+pub(crate) fn is_text(bytes: &[u8]) -> bool {
     for byte in bytes {
         match *byte {
             b' '..=b'~' | b'\t' | b'\n' | b'\r' | 12 | 26 => {}

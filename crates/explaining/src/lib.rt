@@ -4,6 +4,7 @@
 mod converted;
 mod dimensions;
 mod explanation;
+mod faulty_records;
 mod globals;
 mod high_bytes;
 mod hints;
