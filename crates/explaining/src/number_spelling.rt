@@ -37,20 +37,49 @@ fn word_at(text: &[u8]) -> &[u8] {
     text
 }
 
+// The value of a hexadecimal digit.
+fn digit_value(byte: u8) -> Option<u8> {
+    match byte.to_ascii_uppercase() {
+        digit @ b'0'..=b'9' => Some(digit.saturating_sub(b'0')),
+        letter @ b'A'..=b'F' => Some(letter.saturating_sub(b'A').saturating_add(10)),
+        _ => None,
+    }
+}
+
 // Whether bytes are digits of a base up to 16, or `$`.
 fn has_digits_of(base: u8, bytes: &[u8]) -> bool {
     for byte in bytes {
-        let value = match byte.to_ascii_uppercase() {
-            digit @ b'0'..=b'9' => digit.saturating_sub(b'0'),
-            letter @ b'A'..=b'F' => letter.saturating_sub(b'A').saturating_add(10),
-            b'$' => 0,
+        match digit_value(*byte) {
+            Some(value) if value < base => {}
+            None if *byte == b'$' => {}
             _ => return false,
-        };
-        if value >= base {
-            return false;
         }
     }
     true
+}
+
+// The number that hexadecimal digits spell, if there is one digit at least, and it is one of 16 bits.
+fn number_of(digits: &[u8]) -> Option<u32> {
+    let mut number: u32 = 0;
+    for digit in digits {
+        let value = digit_value(*digit)?;
+        number = number.saturating_mul(16).saturating_add(value as u32);
+    }
+    if digits.is_empty() || number > 65535 {
+        None
+    } else {
+        Some(number)
+    }
+}
+
+/// The 16-bit number of a text of hexadecimal digits that end with H, or come after 0x or $.
+pub(crate) fn hexadecimal(text: &[u8]) -> Option<u32> {
+    match text {
+        [b'0', b'x' | b'X', digits @ ..] => number_of(digits),
+        [b'$', digits @ ..] => number_of(digits),
+        [digits @ .., b'H' | b'h'] => number_of(digits),
+        _ => None,
+    }
 }
 
 // A digit that looks as this letter, or the byte itself.

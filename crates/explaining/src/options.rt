@@ -1,6 +1,7 @@
 //! The options of a command line, and what they take.
 
-use crate::page::{Page, Piece};
+use crate::number_spelling::hexadecimal;
+use crate::page::{MARGIN, Page, Piece};
 use crate::sentences::said_of;
 
 // What an option takes: a line for each.
@@ -17,6 +18,9 @@ const VALUES: &str = "\
 --output-file takes a port, a colon and a file as 01:out.bin; no port and no file is named twice
 --input takes groups as 01:0904/02:FF: a port, a colon and its bytes, in two hexadecimal digits each
 ";
+
+// How what is said of an option begins that takes a decimal number.
+const DECIMAL: &str = "takes a decimal number";
 
 // The option in `words`, after the program's name, that has the value `value`, or no text.
 fn option_with<'a>(words: &[&'a str], value: &str) -> &'a str {
@@ -44,7 +48,7 @@ pub(crate) fn command_word<'a>(words: &[&'a str]) -> &'a str {
     }
 }
 
-/// Adds what the option with the value `value` takes, or what the command takes.
+/// Adds what the option with the value `value` takes, with the decimal number of a hexadecimal one, or what the command takes.
 pub(crate) fn explain_value(page: &mut Page, words: &[&str], value: &str) {
     let option = option_with(words, value);
     let command = command_word(words);
@@ -53,10 +57,21 @@ pub(crate) fn explain_value(page: &mut Page, words: &[&str], value: &str) {
         None if command == "explain" => ("No fault", "has this number"),
         None => (command, "takes one file"),
     };
-    page.sentence(&[
+    page.pieces(&[
+        Piece::Text(MARGIN),
         Piece::Text(subject),
         Piece::Text(" "),
         Piece::Text(taken),
-        Piece::Text(". See plm explain U4"),
     ]);
+    if taken.starts_with(DECIMAL)
+        && let Some(number) = hexadecimal(value.as_bytes())
+    {
+        page.pieces(&[
+            Piece::Text(": "),
+            Piece::Shown(value.as_bytes()),
+            Piece::Text(" is "),
+            Piece::Number(number),
+        ]);
+    }
+    page.pieces(&[Piece::Text(". See plm explain U4.\n")]);
 }
