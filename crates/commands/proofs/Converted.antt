@@ -2,7 +2,7 @@
 use Rattle.commands.proofs.{Prelude.{◌≡◌, ◌<◌, ◌≤◌, ◌++◌, ◌∷◌, ℕ, List, [], length, length-append, codes, decimal, map, Option, None, Some, inl, inr, refl, sym, ap, subst, ◌∙◌, ◌⊎◌, arith, Ending, Done, Refused, status_of, AppendsBeginning, Appends, ChangesFiles, Directory, HasFile, KeepsFiles, stays_on, Tells, memory_line, file_line, CountsFailure, TellsUnwritten, ConvertWanted, LONGEST_SOURCE, Lexeme, lexemes_of, one_reading, Expands, not_both, TypedModule, HasReadCause, IsSourceOf, ReadFault, Expansion, Storage, Syntax, TooLong, Typing, Words, advice_view, usual_advice, Parts, as_it_is, assembled, IsRefused, no_expansion, no_words, plain, line_table, prepared, prepared_notes, rule_view, table_of_rules, note_lines, Advice, PlacedNote, Entry, Rule, IsIncluded, Converts, ConvertsByTables, HasNoConversion, IsMistyped, IsModule, IsNoModule, IsPutTogether, StopsSource, changed, medium_of, rewritten, BeginsTable, WritesTable, ComesOf, IsConvertedTo, IsMadeOf, IsOfForm, IsRefusedAs, RefusesParts, UnlessFault, form_of_fault, told_line, ConvertsFile, ConvertsText, RefusesText, ConvertsHeld, PrintsTold, PrintsTabled, unchanged, with_file, StopsWriting, Conversion, Refusal, Result, Ok, Err, IfOk, IfFault, Failure, Fault, Memory}, Printed.{stays_written}, Included.{was_included, was_stopped_for_next}, Tables.{table_begun, table_stopped, table_written, was_begun, was_stopped_writing, was_written}}
 use Rattle.mem80.proofs.Results.{if_ok_then}
 use Rattle.convert.specs.Includes.{name_of_file}
-use Rattle.convert.specs.Sources.{note_line}
+use Rattle.convert.specs.Sources.{note_line, number_text}
 use Rattle.commands.specs.Converting.{stays}
 use Rattle.literally.specs.declared.fault.Fault as expansion_fault
 
@@ -108,7 +108,7 @@ was_tabled was files later kept wanted made before middle after uncounted status
 -- each note has a line
 module _ (name : List ℕ) (entries : List Entry) where
   some_line : (note : PlacedNote) → 0 < length (note_line name entries note)
-  some_line note = omega (arith, length-append (name_of_file name entries note.place.file) (32 ∷ (decimal note.place.line ++ (codes ": " ++ (note.text.now ++ 10 ∷ [])))))
+  some_line note = omega (arith, length-append (name_of_file name entries note.place.file) (32 ∷ (decimal note.place.line ++ (codes ": " ++ (note.text.now ++ (number_text note.number ++ 10 ∷ []))))))
 
   no_notes : (notes : List PlacedNote) → note_lines name entries notes ≡ [] → notes ≡ []
   no_notes [] none = refl

@@ -1,5 +1,5 @@
 -- Files within one another.
-use Rattle.std.proofs.Common.{◌≡◌, ◌<◌, ◌-◌, ℕ, zero, suc, List, [], refl, ap, arith}
+use Rattle.std.proofs.Common.{◌≡◌, ◌<◌, ◌-◌, ℕ, zero, suc, List, [], None, refl, ap, arith}
 use Rattle.convert.specs.declared.advice.Advice.{Advice}
 use Rattle.convert.specs.declared.assembly.Place.{Place}
 use Rattle.convert.specs.declared.includes.Entry.{Entry}
@@ -20,6 +20,6 @@ deeper advice entries (suc depth) place line file text parts some =
 pub deepest : (advice : Advice) (entries : List Entry) (depth : ℕ) (place : Place) (line : List ℕ) (file : ℕ)
     (text : List ℕ) (parts : Parts) → depth ≡ 0
     → file_put advice entries depth place line file text parts
-    ≡ with_told line (record { place = place; text = advice.too_deep }) parts
+    ≡ with_told line (record { place = place; text = advice.too_deep; number = None }) parts
 deepest advice entries zero place line file text parts none = refl
 deepest advice entries (suc depth) place line file text parts none = absurd (omega (arith, none))

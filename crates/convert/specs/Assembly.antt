@@ -1,5 +1,5 @@
 -- The text of a source with its files put in, and what is told of its lines with controls.
-use Rattle.std.specs.Prelude.{ℕ, zero, suc, ◌+◌, ◌-◌, Bool, true, false, ◌==◌, ◌&&◌, if◌then◌else◌, Option}
+use Rattle.std.specs.Prelude.{ℕ, zero, suc, ◌+◌, ◌-◌, Bool, true, false, ◌==◌, ◌&&◌, if◌then◌else◌, Option, None}
 use Rattle.std.specs.Prelude.{List, [], ◌∷◌, ◌++◌, length, map, drop}
 use Rattle.std.specs.List.{list_all}
 use Rattle.convert.specs.declared.advice.Advice.{Advice}
@@ -57,12 +57,15 @@ with_wanted name parts = record parts { wanted = parts.wanted ++ name ∷ [] }
 -- what is told of a control of an IF
 abbrev pub told_on : Advice → Place → Concern → Parts → Parts
 told_on advice place Fine parts = parts
-told_on advice place NoCondition parts = with_note (record { place = place; text = advice.no_condition }) parts
-told_on advice place NoIf parts = with_note (record { place = place; text = advice.no_if }) parts
+told_on advice place NoCondition parts =
+    with_note (record { place = place; text = advice.no_condition; number = None }) parts
+told_on advice place NoIf parts =
+    with_note (record { place = place; text = advice.no_if; number = None }) parts
 
 -- what is told of an IF that is open at the end of its file
 abbrev pub note_open : Advice → ℕ → Block → PlacedNote
-note_open advice file block = record { place = record { file = file; line = block.line }; text = advice.no_end }
+note_open advice file block =
+    record { place = record { file = file; line = block.line }; text = advice.no_end; number = None }
 
 abbrev pub told_open : Advice → ℕ → List Block → Parts → Parts
 told_open advice file [] parts = parts
@@ -73,7 +76,7 @@ told_open advice file (block ∷ blocks) parts =
 abbrev pub with_names : Advice → Place → Bool → List (List ℕ) → Parts → Parts
 with_names advice place on items parts =
     if are_names items then record parts { switches = parts.switches ++ switches_of on items }
-    else with_note (record { place = place; text = advice.no_names }) parts
+    else with_note (record { place = place; text = advice.no_names; number = None }) parts
 
 -- a line at which a control begins that sets or resets switches, or another
 abbrev pub switched_by : Advice → Place → List ℕ → ControlKind → Parts → Parts
@@ -110,11 +113,11 @@ Puts = Place → List ℕ → ℕ → List ℕ → Parts → Parts
 -- a line with an INCLUDE of this name, by what is known of its file
 abbrev pub included_by : Advice → Puts → Place → List ℕ → List ℕ → Answer → Parts → Parts
 included_by advice puts place line name no_name parts =
-    with_told line (record { place = place; text = advice.no_name }) parts
+    with_told line (record { place = place; text = advice.no_name; number = None }) parts
 included_by advice puts place line name unknown parts =
-    with_told line (record { place = place; text = advice.not_looked_for }) (with_wanted name parts)
+    with_told line (record { place = place; text = advice.not_looked_for; number = None }) (with_wanted name parts)
 included_by advice puts place line name absent parts =
-    with_told line (record { place = place; text = advice.no_file }) parts
+    with_told line (record { place = place; text = advice.no_file; number = None }) parts
 included_by advice puts place line name (present file text) parts = puts place line file text parts
 
 -- the same, by what was looked for
@@ -191,7 +194,8 @@ lines_put advice entries puts file number (line ∷ lines) blocks parts =
 abbrev pub with_ends : Advice → ℕ → List ℕ → Parts → Parts
 with_ends advice file text parts =
     if is_unbroken text && is_control text
-    then with_note (record { place = record { file = file; line = 1 }; text = advice.no_feed }) parts else parts
+    then with_note (record { place = record { file = file; line = 1 }; text = advice.no_feed; number = None }) parts
+    else parts
 
 -- what is told of comments in a file that is included
 abbrev pub with_comments : Advice → ℕ → List ℕ → Parts → Parts
@@ -205,7 +209,7 @@ begun advice file text parts = with_comments advice file text (with_ends advice 
 -- the lines of a file that is included, and of those that it includes, where files may be so deep
 abbrev pub file_put : Advice → List Entry → (depth : ℕ) → Place → List ℕ → ℕ → List ℕ → Parts → Parts
 file_put advice entries zero place line file text parts =
-    with_told line (record { place = place; text = advice.too_deep }) parts
+    with_told line (record { place = place; text = advice.too_deep; number = None }) parts
 file_put advice entries (suc depth) place line file text parts =
     lines_put advice entries (file_put advice entries depth) file 1 (lines_of_file text) [] (begun advice file text parts)
 
@@ -216,7 +220,7 @@ line_of_source number = record { file = 0; line = number }
 -- what is told of switches that are set from the beginning, if one has no name
 abbrev pub notes_of_sets : Advice → List (List ℕ) → List PlacedNote
 notes_of_sets advice sets =
-    if list_all is_name sets then [] else record { place = line_of_source 0; text = advice.no_switch } ∷ []
+    if list_all is_name sets then [] else record { place = line_of_source 0; text = advice.no_switch; number = None } ∷ []
 
 -- nothing but what was told before, and switches that are set
 abbrev pub parts_with : Advice → List PlacedNote → List (List ℕ) → Parts

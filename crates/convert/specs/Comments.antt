@@ -1,5 +1,5 @@
 -- Comments in which another begins. Strings and comments are those of words, but that a string ends with its line at last.
-use Rattle.std.specs.Prelude.{ℕ, ◌+◌, Bool, true, false, not, ◌==◌, ◌&&◌, ◌||◌, if◌then◌else◌}
+use Rattle.std.specs.Prelude.{ℕ, ◌+◌, Bool, true, false, not, ◌==◌, ◌&&◌, ◌||◌, if◌then◌else◌, None}
 use Rattle.std.specs.Prelude.{List, [], ◌∷◌, ◌++◌}
 use Rattle.convert.specs.declared.advice.Advice.{Advice}
 use Rattle.convert.specs.declared.assembly.Place.{Place}
@@ -58,7 +58,7 @@ after_line within line = if is_control line then within else after_bytes within 
 abbrev pub comment_note : Advice → Place → Within → List ℕ → List PlacedNote
 comment_note advice place within line =
     if not (is_control line) && begins_inner within line
-    then record { place = place; text = advice.inner_comment } ∷ [] else []
+    then record { place = place; text = advice.inner_comment; number = None } ∷ [] else []
 
 -- what is told of the lines of a file, numbered from `number`
 abbrev pub comment_notes_from : Advice → (file number : ℕ) → Within → List (List ℕ) → List PlacedNote

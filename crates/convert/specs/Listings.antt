@@ -1,5 +1,5 @@
 -- Listings that a compiler of PL/M-80 printed.
-use Rattle.std.specs.Prelude.{ℕ, ◌+◌, Bool, true, false, ◌==◌, ◌&&◌, ◌||◌, if◌then◌else◌, nat_eq, codes}
+use Rattle.std.specs.Prelude.{ℕ, ◌+◌, Bool, true, false, ◌==◌, ◌&&◌, ◌||◌, if◌then◌else◌, nat_eq, codes, None}
 use Rattle.std.specs.Prelude.{List, [], ◌∷◌, ◌++◌, drop, take}
 use Rattle.std.specs.Char.{is_ascii_digit}
 use Rattle.std.specs.List.{list_all, list_any, starts_with}
@@ -78,9 +78,9 @@ unlisted listing = listed_text (lines_of (plain listing))
 -- what is told of a line of a number
 abbrev pub listing_note : Advice → ℕ → Listed → List PlacedNote
 listing_note advice number Source = []
-listing_note advice number Rest = record { place = line_of_source number; text = advice.goes_on } ∷ []
+listing_note advice number Rest = record { place = line_of_source number; text = advice.goes_on; number = None } ∷ []
 listing_note advice number Printed = []
-listing_note advice number Unknown = record { place = line_of_source number; text = advice.no_line } ∷ []
+listing_note advice number Unknown = record { place = line_of_source number; text = advice.no_line; number = None } ∷ []
 
 -- what is told of lines, numbered from `number`
 abbrev pub listing_notes_from : Advice → ℕ → List (List ℕ) → List PlacedNote

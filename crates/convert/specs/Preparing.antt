@@ -1,5 +1,5 @@
 -- What of a file is the source.
-use Rattle.std.specs.Prelude.{ℕ, Bool, ◌&&◌, ◌||◌, if◌then◌else◌, List, [], ◌∷◌, ◌++◌}
+use Rattle.std.specs.Prelude.{ℕ, Bool, ◌&&◌, ◌||◌, if◌then◌else◌, None, List, [], ◌∷◌, ◌++◌}
 use Rattle.convert.specs.declared.advice.Advice.{Advice}
 use Rattle.convert.specs.declared.assembly.PlacedNote.{PlacedNote}
 use Rattle.convert.specs.declared.preparing.Medium.{Medium}
@@ -33,7 +33,7 @@ loses_lines medium text = is_control text || (medium.listing || medium.cards)
 abbrev pub notes_of_ends : Advice → Medium → List ℕ → List PlacedNote
 notes_of_ends advice medium text =
     if is_unbroken text && loses_lines medium text
-    then record { place = line_of_source 1; text = advice.no_feed } ∷ [] else []
+    then record { place = line_of_source 1; text = advice.no_feed; number = None } ∷ [] else []
 
 -- what is told of the lines of a file, and of comments in its source
 abbrev pub prepared_notes : Advice → Medium → List ℕ → List PlacedNote

@@ -1,5 +1,5 @@
--- The sides of `=`, where one assigns a name that the other uses. What an assignment evaluates first is left open by the
--- language of the time.
+-- The sides of `=`, where one assigns a name that the other uses. The order in which the two sides of an assignment are
+-- evaluated is this compiler's own choice (`docs/definition.md`).
 use Rattle.std.specs.Prelude.{ℕ, ◌+◌, Bool, true, false, not, ◌==◌, ◌&&◌, ◌||◌, if◌then◌else◌}
 use Rattle.std.specs.Prelude.{List, [], ◌∷◌, drop, take}
 use Rattle.symbols.specs.Names.{name_of, is_name as is_valid_name}

@@ -25,6 +25,7 @@ pub data PutView : Type 0 where
 pub data ActionView : Type 0 where
   Writes : List PutView → ActionView
   Tells : List ℕ → ActionView
+  DeletesNumber : ℕ → List ℕ → ActionView
 
 pub record RuleView : Type 0 where
   pub parts : List Part
@@ -41,6 +42,7 @@ put_view (puts.Each first last value) = PutsEach first last value
 abbrev pub action_view : Action → ActionView
 action_view (actions.Write written) = Writes (map put_view written.now)
 action_view (actions.Tell text) = Tells text.now
+action_view (actions.DeleteNumber usual text) = DeletesNumber usual text.now
 
 abbrev pub rule_view : Rule → RuleView
 rule_view rule = record { parts = rule.parts.now; action = action_view rule.action }
@@ -53,7 +55,7 @@ table_of_rules =
     ∷ record { parts = (parts.Is (classes.Reserved words.Goto)) ∷ (parts.Is classes.Number) ∷ []; action = Tells (codes "GOTO an address: in MON1 and MON2 delete it and write EXTERNAL in the heading; for 0 write CALL MON1(0, 0); else JUMP of examples/mixed") }
     ∷ record { parts = (parts.Is (classes.Reserved words.Goto)) ∷ (parts.Is classes.Constant) ∷ []; action = Tells (codes "GOTO an address: in MON1 and MON2 delete it and write EXTERNAL in the heading; for 0 write CALL MON1(0, 0); else JUMP of examples/mixed") }
     ∷ record { parts = (parts.Is (classes.Reserved words.Go)) ∷ (parts.Is (classes.Reserved words.To)) ∷ []; action = Writes ((PutsText (codes "GOTO")) ∷ []) }
-    ∷ record { parts = (parts.Is classes.FirstNumber) ∷ (parts.Is (classes.Mark marks.Colon)) ∷ []; action = Writes [] }
+    ∷ record { parts = (parts.Is classes.FirstNumber) ∷ (parts.Is (classes.Mark marks.Colon)) ∷ []; action = DeletesNumber 256 (codes "a load address other than 100H, which is deleted: where the program is built or run, give --code") }
     ∷ record { parts = parts.EndOfText ∷ []; action = Writes [] }
     ∷ record { parts = (parts.Is (classes.Reserved words.Eof)) ∷ []; action = Tells (codes "EOF: delete it, and what follows if that is no part of the program, or write another name") }
     ∷ record { parts = (parts.Is (classes.Mark marks.Colon)) ∷ (parts.Is classes.EndOfOther) ∷ (parts.Is classes.Name) ∷ []; action = Tells (codes "END NAME: no label NAME at the DO that it ends: an END may be missing before it, or delete NAME") }
@@ -111,6 +113,14 @@ table_of_rules =
     ∷ record { parts = parts.List ∷ parts.Group ∷ parts.Type ∷ (parts.Is (classes.Reserved words.Public)) ∷ parts.Values ∷ []; action = Tells (codes "values for several arrays: write each array with its own") }
     ∷ record { parts = parts.List ∷ parts.Group ∷ parts.Type ∷ (parts.Is (classes.Reserved words.At)) ∷ []; action = Tells (codes "AT for several arrays: write each array with its own") }
     ∷ record { parts = parts.List ∷ parts.Group ∷ parts.Type ∷ parts.Scope ∷ (parts.Is (classes.Reserved words.At)) ∷ []; action = Tells (codes "AT for several arrays: write each array with its own") }
+    ∷ record { parts = parts.List ∷ (parts.Is (classes.Reserved words.Structure)) ∷ parts.Group ∷ parts.Values ∷ []; action = Tells (codes "values for several structures: write each structure with its own") }
+    ∷ record { parts = parts.List ∷ (parts.Is (classes.Reserved words.Structure)) ∷ parts.Group ∷ (parts.Is (classes.Reserved words.Public)) ∷ parts.Values ∷ []; action = Tells (codes "values for several structures: write each structure with its own") }
+    ∷ record { parts = parts.List ∷ parts.Group ∷ (parts.Is (classes.Reserved words.Structure)) ∷ parts.Group ∷ parts.Values ∷ []; action = Tells (codes "values for several structures: write each structure with its own") }
+    ∷ record { parts = parts.List ∷ parts.Group ∷ (parts.Is (classes.Reserved words.Structure)) ∷ parts.Group ∷ (parts.Is (classes.Reserved words.Public)) ∷ parts.Values ∷ []; action = Tells (codes "values for several structures: write each structure with its own") }
+    ∷ record { parts = parts.List ∷ (parts.Is (classes.Reserved words.Structure)) ∷ parts.Group ∷ (parts.Is (classes.Reserved words.At)) ∷ []; action = Tells (codes "AT for several structures: write each structure with its own") }
+    ∷ record { parts = parts.List ∷ (parts.Is (classes.Reserved words.Structure)) ∷ parts.Group ∷ parts.Scope ∷ (parts.Is (classes.Reserved words.At)) ∷ []; action = Tells (codes "AT for several structures: write each structure with its own") }
+    ∷ record { parts = parts.List ∷ parts.Group ∷ (parts.Is (classes.Reserved words.Structure)) ∷ parts.Group ∷ (parts.Is (classes.Reserved words.At)) ∷ []; action = Tells (codes "AT for several structures: write each structure with its own") }
+    ∷ record { parts = parts.List ∷ parts.Group ∷ (parts.Is (classes.Reserved words.Structure)) ∷ parts.Group ∷ parts.Scope ∷ (parts.Is (classes.Reserved words.At)) ∷ []; action = Tells (codes "AT for several structures: write each structure with its own") }
     ∷ record { parts = (parts.Is (classes.Reserved words.At)) ∷ parts.Group ∷ parts.Values ∷ []; action = Tells (codes "AT with a value: write an assignment at the beginning of the program") }
     ∷ record { parts = parts.Values ∷ parts.Group ∷ parts.Scope ∷ []; action = Writes ((PutsCopy 2) ∷ (PutsText (codes " ")) ∷ (PutsCopy 0) ∷ (PutsText (codes " ")) ∷ (PutsCopy 1) ∷ []) }
     ∷ record { parts = (parts.Is (classes.Reserved words.At)) ∷ parts.Group ∷ parts.Scope ∷ []; action = Writes ((PutsCopy 2) ∷ (PutsText (codes " ")) ∷ (PutsCopy 0) ∷ (PutsText (codes " ")) ∷ (PutsCopy 1) ∷ []) }

@@ -1,6 +1,6 @@
 //! A source with its files put in.
 
-ghost use Rattle.std.specs.Prelude.{◌≡◌, ◌++◌, [], map, IfOk};
+ghost use Rattle.std.specs.Prelude.{◌≡◌, ◌++◌, [], map, None, IfOk};
 ghost use Rattle.convert.specs.Assembly.{as_it_is, assembled, begun, conditioned, controlled, blocks_put, file_put, included, line_of_source, line_put, lines_put, notes_of_sets, parts_of, parts_with, places_from, switched, switched_by, told_on, told_open, value_at, with_comments, with_ends, with_line, with_names, with_note, with_told, with_wanted};
 ghost use Rattle.convert.specs.Controls.{argument_of, kind_at};
 ghost use Rattle.convert.specs.Lines.{lines_of};
@@ -30,11 +30,25 @@ pub struct Place {
     pub line: usize,
 }
 
-/// What could not be carried out or changed at a place, and what to write.
+/// What could not be carried out or changed at a place, what to write, and the number that ends it.
 #[derive(Clone, Copy)]
 pub struct PlacedNote {
     pub place: Place,
     pub text: &'static str,
+    pub number: Option<u16>,
+}
+
+impl PlacedNote {
+    /// What is told at a place, without a number.
+    pub(crate) fn new(place: Place, text: &'static str) -> PlacedNote
+        ensures { result ≡ record { place = place; text = text.entry; number = None } }
+    {
+        PlacedNote {
+            place,
+            text,
+            number: None,
+        }
+    }
 }
 
 /// A text that is put together: where each of its lines stands, what is told, the switches that were set and reset, and the
@@ -90,11 +104,11 @@ fn tell_concern(
         Concern::Fine => Ok(()),
         Concern::NoCondition => {
             let text = advice.no_condition;
-            tell(PlacedNote { place, text }, assembly)
+            tell(PlacedNote::new(place, text), assembly)
         }
         Concern::NoIf => {
             let text = advice.no_if;
-            tell(PlacedNote { place, text }, assembly)
+            tell(PlacedNote::new(place, text), assembly)
         }
     }
 }
@@ -116,7 +130,7 @@ fn tell_open(
             line: block.line,
         };
         let text = advice.no_end;
-        tell(PlacedNote { place, text }, assembly)?;
+        tell(PlacedNote::new(place, text), assembly)?;
         rest = more;
     }
     Ok(())
@@ -135,7 +149,7 @@ fn tell_ends(
     if is_unbroken(text) && is_control(text) {
         let place = Place { file, line: 1 };
         let text = advice.no_feed;
-        tell(PlacedNote { place, text }, assembly)
+        tell(PlacedNote::new(place, text), assembly)
     } else {
         Ok(())
     }
@@ -196,7 +210,7 @@ fn add_group<'a>(
         add_switches(on, items.as_slice(), &mut assembly.switches)
     } else {
         let text = advice.no_names;
-        tell(PlacedNote { place, text }, assembly)
+        tell(PlacedNote::new(place, text), assembly)
     }
 }
 
@@ -294,7 +308,7 @@ fn put_file<'a>(
 {
     if depth == 0 {
         let text = advice.too_deep;
-        return tell_line(line, PlacedNote { place, text }, assembly);
+        return tell_line(line, PlacedNote::new(place, text), assembly);
     }
     begin_file(alloc, advice, file, text, assembly)?;
     let lines = lines_of_file(alloc, text)?;
@@ -329,16 +343,16 @@ fn put_include<'a>(
     match answer_of(entries, name) {
         Answer::NoName => {
             let text = advice.no_name;
-            tell_line(line, PlacedNote { place, text }, assembly)
+            tell_line(line, PlacedNote::new(place, text), assembly)
         }
         Answer::Unknown => {
             want(alloc, name, assembly)?;
             let text = advice.not_looked_for;
-            tell_line(line, PlacedNote { place, text }, assembly)
+            tell_line(line, PlacedNote::new(place, text), assembly)
         }
         Answer::Absent => {
             let text = advice.no_file;
-            tell_line(line, PlacedNote { place, text }, assembly)
+            tell_line(line, PlacedNote::new(place, text), assembly)
         }
         Answer::Present(file, text) => {
             put_file(
@@ -470,7 +484,7 @@ fn note_sets(advice: &Advice, sets: &[&str], notes: &mut Vec<PlacedNote>) -> Res
     }
     let place = line_of_source(0);
     let text = advice.no_switch;
-    notes.push(PlacedNote { place, text })?;
+    notes.push(PlacedNote::new(place, text))?;
     Ok(())
 }
 

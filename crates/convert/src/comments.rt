@@ -81,7 +81,7 @@ fn note_line(
         return Ok(());
     }
     let text = advice.inner_comment;
-    notes.push(PlacedNote { place, text })?;
+    notes.push(PlacedNote::new(place, text))?;
     Ok(())
 }
 

@@ -1,7 +1,7 @@
 //! Conversion of the words of a text.
 
-ghost use Rattle.std.specs.Prelude.{◌≡◌, ◌≤◌, ◌+◌, ◌++◌, length, IfOk};
-ghost use Rattle.convert.specs.Converting.{change_at, changes_after, first_commas, fit, note_at, notes_after, passed_by, rule_at};
+ghost use Rattle.std.specs.Prelude.{◌≡◌, ◌≤◌, ◌+◌, [], ◌∷◌, ◌++◌, length, IfOk};
+ghost use Rattle.convert.specs.Converting.{change_at, changes_after, first_commas, fit, note_at, notes_after, passed_by, replaced, rule_at};
 ghost use Rattle.convert.specs.Edits.{changes_of};
 
 use crate::class::Seen;
@@ -12,12 +12,14 @@ use crate::rule::{Action, Rule};
 use crate::texts::{end_of, start_of};
 use crate::writing::puts_text;
 use std::alloc::{AllocError, Global};
+use words::Kind;
 
-/// What could not be changed: a line of the text, counted from 1, and what to write.
+/// What could not be changed: a line of the text, counted from 1, what to write, and the number that ends it.
 #[derive(Clone, Copy)]
 pub struct Note {
     pub line: usize,
     pub text: &'static str,
+    pub number: Option<u16>,
 }
 
 // How many commas the group at the front has in no further parentheses.
@@ -70,15 +72,30 @@ fn change_at(
     };
     match rule.action {
         Action::Write(puts) => {
-            let count = fit(&rule, words);
             let text = puts_text(alloc, source, rule.parts, first_commas(words), words, puts)?;
-            let from = start_of(&words[..count]);
-            let to = end_of(&words[..count]);
-            edits.push(Edit { from, to, text })?;
-            Ok(())
+            replace(words, &rule, text, edits)
         }
         Action::Tell(_) => Ok(()),
+        Action::DeleteNumber(_, _) => replace(words, &rule, Vec::new(alloc), edits),
     }
+}
+
+// Adds the change of what a rule has found at the front of words to a text.
+fn replace(
+    words: &[Seen],
+    rule: &Rule,
+    text: Vec<u8>,
+    edits: &mut Vec<Edit>,
+) -> Result<(), AllocError>
+    requires { length words.now ≤ 4294967296 }
+    ensures { IfOk result (λ _. changes_of edits.new.items
+        ≡ changes_of edits.old.items ++ replaced words.now rule.now text.items ∷ []) }
+{
+    let count = fit(rule, words);
+    let from = start_of(&words[..count]);
+    let to = end_of(&words[..count]);
+    edits.push(Edit { from, to, text })?;
+    Ok(())
 }
 
 /// Adds the changes that the rules make in words.
@@ -127,7 +144,7 @@ pub(crate) fn note_all(
             continue;
         }
         let found = rule_at(rules, rest);
-        note_at(seen.word.line as usize, found, notes)?;
+        note_at(seen.word.line as usize, seen.word.kind, found, notes)?;
         passed = passed_by(rest, found);
         rest = more;
     }
@@ -145,18 +162,32 @@ fn passed_by(words: &[Seen], found: Option<Rule>) -> usize
     }
 }
 
-// Adds what a rule that was found tells.
-fn note_at(line: usize, found: Option<Rule>, notes: &mut Vec<Note>) -> Result<(), AllocError>
-    ensures { IfOk result (λ _. notes.new.items ≡ notes.old.items ++ note_at line found) }
+// Adds what a rule that was found tells of a word of a kind.
+fn note_at(
+    line: usize,
+    kind: Kind,
+    found: Option<Rule>,
+    notes: &mut Vec<Note>,
+) -> Result<(), AllocError>
+    ensures { IfOk result (λ _. notes.new.items ≡ notes.old.items ++ note_at line kind found) }
 {
-    match found {
-        Some(rule) => match rule.action {
-            Action::Tell(text) => {
-                notes.push(Note { line, text })?;
+    let Some(rule) = found else {
+        return Ok(());
+    };
+    match rule.action {
+        Action::Write(_) => Ok(()),
+        Action::Tell(text) => {
+            let number = None;
+            notes.push(Note { line, text, number })?;
+            Ok(())
+        }
+        Action::DeleteNumber(usual, text) => match kind {
+            Kind::Number(value) if value != usual => {
+                let number = Some(value);
+                notes.push(Note { line, text, number })?;
                 Ok(())
             }
-            Action::Write(_) => Ok(()),
+            _ => Ok(()),
         },
-        None => Ok(()),
     }
 }

@@ -1,6 +1,6 @@
 //! Listings that a compiler of PL/M-80 printed.
 
-ghost use Rattle.std.specs.Prelude.{◌≡◌, ◌∷◌, ◌++◌, [], false, map, IfOk};
+ghost use Rattle.std.specs.Prelude.{◌≡◌, ◌∷◌, ◌++◌, [], false, map, None, IfOk};
 ghost use Rattle.std.specs.List.{list_all};
 ghost use Rattle.convert.specs.Assembly.{line_of_source};
 ghost use Rattle.convert.specs.Listings.{form_of, has_columns, has_marks, is_end, is_mark, is_number, is_printed, listed, listed_body, listed_text, listing_note, listing_notes_from};
@@ -102,10 +102,10 @@ pub(crate) fn tell(
     notes: &mut Vec<PlacedNote>,
 ) -> Result<(), AllocError>
     ensures { IfOk result (λ _. notes.new.items
-        ≡ notes.old.items ++ (record { place = line_of_source number; text = text.entry }) ∷ []) }
+        ≡ notes.old.items ++ (record { place = line_of_source number; text = text.entry; number = None }) ∷ []) }
 {
     let place = line_of_source(number);
-    notes.push(PlacedNote { place, text })?;
+    notes.push(PlacedNote::new(place, text))?;
     Ok(())
 }
 

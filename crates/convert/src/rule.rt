@@ -71,6 +71,8 @@ pub enum Action {
     Write(&'static [Put]),
     /// Leaves what was found, and says what to write.
     Tell(&'static str),
+    /// Deletes what was found. If it begins with a number other than this one, says what to write, and then that number.
+    DeleteNumber(u16, &'static str),
 }
 
 /// A rule: what it looks for, and what it does with it.

@@ -42,7 +42,7 @@ const NAME: Part = Part::Is(Class::Name);
 const SPACE: Put = Put::Text(b" ");
 
 /// The rules.
-pub static RULES: [Rule; 71] = [
+pub static RULES: [Rule; 79] = [
     // words
     Rule {
         parts: &[
@@ -91,7 +91,10 @@ pub static RULES: [Rule; 71] = [
     },
     Rule {
         parts: &[Part::Is(Class::FirstNumber), COLON],
-        action: Action::Write(&[]),
+        action: Action::DeleteNumber(
+            256,
+            "a load address other than 100H, which is deleted: where the program is built or run, give --code",
+        ),
     },
     Rule {
         parts: &[Part::EndOfText],
@@ -414,6 +417,58 @@ pub static RULES: [Rule; 71] = [
     Rule {
         parts: &[Part::List, Part::Group, Part::Type, Part::Scope, AT],
         action: Action::Tell("AT for several arrays: write each array with its own"),
+    },
+    Rule {
+        parts: &[Part::List, STRUCTURE, Part::Group, Part::Values],
+        action: Action::Tell("values for several structures: write each structure with its own"),
+    },
+    Rule {
+        parts: &[Part::List, STRUCTURE, Part::Group, PUBLIC, Part::Values],
+        action: Action::Tell("values for several structures: write each structure with its own"),
+    },
+    Rule {
+        parts: &[
+            Part::List,
+            Part::Group,
+            STRUCTURE,
+            Part::Group,
+            Part::Values,
+        ],
+        action: Action::Tell("values for several structures: write each structure with its own"),
+    },
+    Rule {
+        parts: &[
+            Part::List,
+            Part::Group,
+            STRUCTURE,
+            Part::Group,
+            PUBLIC,
+            Part::Values,
+        ],
+        action: Action::Tell("values for several structures: write each structure with its own"),
+    },
+    Rule {
+        parts: &[Part::List, STRUCTURE, Part::Group, AT],
+        action: Action::Tell("AT for several structures: write each structure with its own"),
+    },
+    Rule {
+        parts: &[Part::List, STRUCTURE, Part::Group, Part::Scope, AT],
+        action: Action::Tell("AT for several structures: write each structure with its own"),
+    },
+    Rule {
+        parts: &[Part::List, Part::Group, STRUCTURE, Part::Group, AT],
+        action: Action::Tell("AT for several structures: write each structure with its own"),
+    },
+    Rule {
+        parts: &[
+            Part::List,
+            Part::Group,
+            STRUCTURE,
+            Part::Group,
+            Part::Scope,
+            AT,
+        ],
+        action: Action::Tell("AT for several structures: write each structure with its own"),
     },
     // places and values before PUBLIC
     Rule {

@@ -6,7 +6,7 @@ ghost use Rattle.words.specs.declared.limits.TheConstants.{LONGEST_SOURCE};
 ghost use Rattle.convert.specs.Assembly.{parts_of};
 ghost use Rattle.convert.specs.Conversion.{IsRefused};
 ghost use Rattle.convert.specs.Edits.{changes_of};
-ghost use Rattle.convert.specs.Sources.{IsConverted, note_line, note_lines, place_at, placed};
+ghost use Rattle.convert.specs.Sources.{IsConverted, note_line, note_lines, number_text, place_at, placed};
 
 use crate::assembly::{Assembly, Place, PlacedNote};
 use crate::conversion::{Conversion, convert};
@@ -93,6 +93,7 @@ fn add_notes(places: &[Place], notes: &[Note], all: &mut Vec<PlacedNote>) -> Res
         all.push(PlacedNote {
             place,
             text: note.text,
+            number: note.number,
         })?;
         rest = more;
     }
@@ -133,6 +134,21 @@ fn write_note(
     text.extend_from_slice(line.as_bytes())?;
     text.extend_from_slice(b": ")?;
     text.extend_from_slice(note.text.as_bytes())?;
+    write_number(note.number, text)?;
     text.push(b'\n')?;
+    Ok(())
+}
+
+// Adds the number that ends a note, after a blank.
+fn write_number(number: Option<u16>, text: &mut Vec<u8>) -> Result<(), AllocError>
+    ensures { IfOk result (λ _. text.new.items ≡ text.old.items ++ number_text number) }
+{
+    let Some(number) = number else {
+        return Ok(());
+    };
+    let mut digits = Buffer::new();
+    let number = digits.format(number);
+    text.push(b' ')?;
+    text.extend_from_slice(number.as_bytes())?;
     Ok(())
 }
