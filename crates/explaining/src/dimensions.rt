@@ -53,13 +53,14 @@ pub(crate) fn said_of_dimension(before: &[Word], after: &[Word]) -> Option<&'sta
     }
     let has_second = has_second_dimension(after);
     match (last.kind, word.kind) {
-        (_, Kind::Mark(Mark::Comma)) if has_second => Some(
+        (Kind::Number(_), Kind::Mark(Mark::Comma)) if has_second => Some(
             "An array has one dimension: for S(2, 3) declare S(6), and write S(I * 3 + J)",
         ),
         (Kind::Number(_), Kind::Reserved(ReservedWord::Address | ReservedWord::Byte)) => {
             Some("A ) is missing before it")
         }
         (_, Kind::Name | Kind::Number(_) | Kind::String) => Some(DIMENSION),
+        (Kind::Number(_), Kind::Mark(Mark::Colon)) => Some(DIMENSION),
         (Kind::Number(_), kind) if is_arithmetic(kind) => Some(DIMENSION),
         _ => None,
     }

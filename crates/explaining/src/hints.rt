@@ -1,13 +1,14 @@
 //! What is likely wrong at a word of a source that cannot stand where it stands.
 
 use crate::dimensions::said_of_dimension;
-use crate::left_out::{cure_of, cure_of_strange, is_same_name};
+use crate::left_out::{cure_of, cure_of_strange, is_built_in, is_same_name};
 use crate::misspelled::{Meant, is_near_do, meant_at, said_of_file};
-use crate::naming::{DECLARING, awaited_after, is_declared, is_known};
+use crate::naming::{DECLARING, awaited_after, declares_first, find_object, is_declared, is_known};
 use crate::openers::{Opened, Opener};
 use crate::page::{Page, Piece};
 use crate::statements::{
-    is_reserved_name, line_of_do, may_end_after, said_at, said_of_assignment, statement_of,
+    depth_of, is_reserved_name, line_of_do, may_end_after, said_at, said_of_assignment,
+    statement_of,
 };
 use words::{Kind, Mark, ReservedWord, Word};
 
@@ -67,6 +68,9 @@ const NO_MODULE: Hint<'static> = Hint::Said(
 // That an address stands after GO TO.
 const GO_TO_ADDRESS: &str =
     "GO TO an address: in MON1 or MON2 of CP/M delete it and write EXTERNAL in the heading; for GO TO 0 write CALL MON1(0, 0)";
+
+// That parentheses hold no value.
+const NO_VALUE: &str = "A value is missing between the parentheses";
 
 // The reserved words that may be the last one of a statement.
 const ENDING: [ReservedWord; 11] = [
@@ -136,6 +140,39 @@ fn awaits_then(words: &[Word]) -> bool {
         }
     }
     is_awaited
+}
+
+// Whether a DECLARE goes on after words with a name that those after them declare, or its list of names or one of parameters
+// goes on.
+fn goes_on(before: &[Word], after: &[Word]) -> bool {
+    let statement = statement_of(before);
+    let first = match statement {
+        [first, ..] => first.kind,
+        [] => return false,
+    };
+    let is_listed = match after {
+        [_, next, ..] => {
+            next.kind == Kind::Mark(Mark::Comma) || next.kind == Kind::Mark(Mark::RightParenthesis)
+        }
+        _ => false,
+    };
+    let is_in_list = is_listed && depth_of(statement) > 0;
+    match first {
+        Kind::Reserved(ReservedWord::Declare) => is_in_list || declares_first(after),
+        Kind::Reserved(ReservedWord::Procedure) => is_in_list,
+        _ => false,
+    }
+}
+
+// What may be missing at the end of a line, between words and those after them.
+fn missing_before(before: &[Word], after: &[Word]) -> &'static str {
+    if awaits_then(before) {
+        "THEN"
+    } else if goes_on(before, after) {
+        "A comma"
+    } else {
+        "A semicolon"
+    }
 }
 
 // Whether the last statement of words is a name, or one with a list in parentheses, and no assignment.
@@ -255,12 +292,16 @@ fn hint_of_nothing(before: &[Word], word: &Word) -> Option<Hint<'static>> {
                 Kind::Name if is_declaring => Some(Hint::Said(
                     "A dimension is a number, or * before a list of values",
                 )),
+                Kind::Name if is_built_in(owner.text) => Some(Hint::Said(NO_VALUE)),
+                Kind::Name if find_object(before, owner.text).is_some() => Some(Hint::Said(
+                    "A subscript is missing between the parentheses, or they are superfluous",
+                )),
                 Kind::Name => Some(Hint::Said("Without arguments there are no parentheses")),
                 Kind::Reserved(ReservedWord::Procedure) => Some(Hint::Said(
                     "Without parameters there are no parentheses",
                 )),
                 Kind::Reserved(ReservedWord::At | ReservedWord::Data | ReservedWord::Initial) => {
-                    Some(Hint::Said("A value is missing between the parentheses"))
+                    Some(Hint::Said(NO_VALUE))
                 }
                 _ => None,
             },
@@ -572,11 +613,7 @@ pub(crate) fn hint_at<'a>(
             )))
         }
         [.., last] if strange.is_none() && lacks_semicolon(last, word) => Some(Hint::Missing {
-            what: if awaits_then(before) {
-                "THEN"
-            } else {
-                "A semicolon"
-            },
+            what: missing_before(before, after),
             line: last.line,
         }),
         [.., last] => {

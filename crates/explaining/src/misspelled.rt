@@ -1,11 +1,11 @@
 //! Reserved words that are misspelled, and words that the text of an included file defined.
 
 use crate::left_out::is_same_name;
-use crate::naming::{DECLARING, is_known};
+use crate::naming::{declares_first, is_known};
 use crate::sentences::said_of;
 use crate::statements::{
-    AFTER_DO, awaits_value, comes_after_do, depth_of, has_kind, is_typed_item, is_value,
-    statement_of,
+    AFTER_DO, awaits_value, comes_after_do, depth_of, has_kind, is_in_structure, is_typed_item,
+    is_value, statement_of,
 };
 use sources::Name;
 use words::{Kind, Mark, ReservedWord, Word};
@@ -50,6 +50,11 @@ const BEFORE_SEMICOLON_OF_LABEL: &str = "PROCEDURE\nRETURN\nHALT\nDO\n";
 const BEFORE_NAME: &str = "RETURN\nCALL\nGOTO\nDO\nIF\n";
 
 const BEFORE_NAME_OF_LIST: &str = "DECLARE\nELSE\nEND\nRETURN\nCALL\nGOTO\nDO\nIF\n";
+
+// Those before a name that is assigned or compared.
+const BEFORE_ASSIGNED: &str = "RETURN\nDO\nIF\n";
+
+const BEFORE_ASSIGNED_OF_LIST: &str = "ELSE\nRETURN\nDO\nIF\n";
 
 const BEFORE_NUMBER: &str = "RETURN\nIF\n";
 
@@ -176,6 +181,18 @@ fn meant_by<'a>(spot: &Spot, word: Word<'a>, list: &'static str) -> Option<Meant
     }
 }
 
+// Whether an equal sign comes after the first of words, or after its subscript of one word.
+fn is_assigned(words: &[Word]) -> bool {
+    match words {
+        [_, open, _, close, follows, ..] if open.kind == Kind::Mark(Mark::LeftParenthesis) => {
+            close.kind == Kind::Mark(Mark::RightParenthesis)
+                && follows.kind == Kind::Mark(Mark::EqualSign)
+        }
+        [_, follows, ..] => follows.kind == Kind::Mark(Mark::EqualSign),
+        _ => false,
+    }
+}
+
 // The reserved words that may stand in place of the word at fault.
 fn words_at(spot: &Spot) -> &'static str {
     let [first, ..] = spot.statement else {
@@ -185,15 +202,11 @@ fn words_at(spot: &Spot) -> &'static str {
     let has_equal = has_kind(spot.statement, Kind::Mark(Mark::EqualSign));
     let is_typed = is_typed_item(spot.statement);
     let is_after_value = is_value(spot.last.kind);
-    let is_array = match spot.after {
-        [_, _, _, close, follows, ..] => {
-            close.kind == Kind::Mark(Mark::RightParenthesis) && DECLARING.contains(&follows.kind)
-        }
-        _ => false,
-    };
+    let is_member = is_in_structure(spot.statement);
     match first.kind {
-        _ if is_array || spot.next == Kind::Mark(Mark::EqualSign) => NONE,
-        Kind::Reserved(ReservedWord::Declare) if is_open => OF_MEMBER,
+        _ if declares_first(spot.after) || is_assigned(spot.after) => NONE,
+        Kind::Reserved(ReservedWord::Declare) if is_member && is_after_value => OF_MEMBER,
+        Kind::Reserved(ReservedWord::Declare) if is_open => NONE,
         Kind::Reserved(ReservedWord::Declare) if is_typed => AFTER_TYPE,
         Kind::Reserved(ReservedWord::Declare) => BEFORE_TYPE,
         Kind::Reserved(ReservedWord::Procedure) if is_open => NONE,
@@ -207,11 +220,13 @@ fn words_at(spot: &Spot) -> &'static str {
 }
 
 // The reserved words that may stand in place of the only word of a statement before the one at fault.
-fn words_alone(boundary: Kind, word: Kind) -> &'static str {
+fn words_alone(boundary: Kind, word: Kind, is_assigned: bool) -> &'static str {
     match (boundary, word) {
         (Kind::Mark(Mark::Colon), Kind::Mark(Mark::Semicolon)) => BEFORE_SEMICOLON_OF_LABEL,
         (Kind::Mark(Mark::Semicolon), Kind::Mark(Mark::Semicolon)) => BEFORE_SEMICOLON_OF_LIST,
         (_, Kind::Mark(Mark::Semicolon)) => BEFORE_SEMICOLON,
+        (Kind::Mark(Mark::Semicolon), Kind::Name) if is_assigned => BEFORE_ASSIGNED_OF_LIST,
+        (_, Kind::Name) if is_assigned => BEFORE_ASSIGNED,
         (Kind::Mark(Mark::Semicolon), Kind::Name) => BEFORE_NAME_OF_LIST,
         (_, Kind::Name) => BEFORE_NAME,
         (
@@ -345,7 +360,7 @@ fn spot_at<'w, 'a>(words: &'w [Word<'a>], count: usize) -> Option<Spot<'w, 'a>> 
 fn meant_first<'a>(spot: &Spot<'_, 'a>) -> Option<Meant<'a>> {
     let opening = opening_of(spot.statement)?;
     let list = if spot.statement.len() == 1 {
-        words_alone(spot.boundary, spot.word.kind)
+        words_alone(spot.boundary, spot.word.kind, is_assigned(spot.after))
     } else {
         words_before_list(spot.boundary, spot.word.kind)
     };
@@ -361,8 +376,8 @@ pub(crate) fn meant_at<'a>(words: &[Word<'a>], count: usize) -> Option<Meant<'a>
         .or(meant_first(&spot))
 }
 
-// The word of an included file that stands where its text stood: the type or LITERALLY in a declaration, or the first word.
-fn word_of_file<'a>(spot: &Spot<'_, 'a>) -> Option<Word<'a>> {
+// Whether a type may stand at a word: after a name or a list of a declaration, or after PROCEDURE or its parameters.
+fn may_be_type(spot: &Spot) -> bool {
     let is_declaring = match spot.statement {
         [first, ..] => {
             first.kind == Kind::Reserved(ReservedWord::Declare)
@@ -370,8 +385,18 @@ fn word_of_file<'a>(spot: &Spot<'_, 'a>) -> Option<Word<'a>> {
         }
         [] => false,
     };
+    let is_after = match spot.last.kind {
+        Kind::Name | Kind::Mark(Mark::RightParenthesis) | Kind::Reserved(ReservedWord::Procedure) =>
+            true,
+        _ => false,
+    };
+    is_declaring && is_after && (depth_of(spot.statement) == 0 || is_in_structure(spot.statement))
+}
+
+// The word of an included file that stands where its text stood: the type or LITERALLY in a declaration, or the first word.
+fn word_of_file<'a>(spot: &Spot<'_, 'a>) -> Option<Word<'a>> {
     let is_text = is_same_name(spot.word.text, b"LIT") && spot.next == Kind::String;
-    if is_declaring && (is_text || is_same_name(spot.word.text, b"ADDR")) {
+    if may_be_type(spot) && (is_text || is_same_name(spot.word.text, b"ADDR")) {
         return Some(spot.word);
     }
     let opening = opening_of(spot.statement)?;

@@ -155,16 +155,34 @@ pub(crate) fn find_object(words: &[Word], name: &[u8]) -> Option<usize> {
     None
 }
 
-/// Whether a name is declared in words, by its type, its text or its label: a name that comes before one of these.
+/// Whether a name is declared in words, by its type, its text or its label: a name that comes before one of these, and not
+/// before a type after a label, as a word for PROCEDURE does.
 pub(crate) fn is_declared(words: &[Word], name: &[u8]) -> bool {
     let mut is_after = false;
+    let mut is_heading = false;
+    let mut last = Kind::Mark(Mark::Semicolon);
     for word in words {
-        if is_after && DECLARING.contains(&word.kind) {
+        let is_label = word.kind == Kind::Mark(Mark::Colon);
+        if is_after && DECLARING.contains(&word.kind) && (is_label || !is_heading) {
             return true;
         }
         is_after = is_same_name(word.text, name);
+        is_heading = last == Kind::Mark(Mark::Colon);
+        last = word.kind;
     }
     false
+}
+
+/// Whether the first of words is declared by those after it: by a type, a text or a base, after its dimension if it has one.
+pub(crate) fn declares_first(words: &[Word]) -> bool {
+    let follows = match words {
+        [_, open, _, close, follows, ..]
+            if open.kind == Kind::Mark(Mark::LeftParenthesis)
+                && close.kind == Kind::Mark(Mark::RightParenthesis) => { follows.kind }
+        [_, follows, ..] => follows.kind,
+        _ => return false,
+    };
+    DECLARING.contains(&follows) && follows != Kind::Mark(Mark::Colon)
 }
 
 /// Whether words declare a name: a variable, a parameter, a label or a procedure.

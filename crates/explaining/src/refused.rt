@@ -19,7 +19,7 @@ use crate::options::command_word;
 use crate::origins::add_origins;
 use crate::page::{MARGIN, Page, Piece};
 use crate::spelling::{ends_string_in_word, is_after_nested, refused_byte};
-use crate::statements::awaits_value;
+use crate::statements::{awaits_value, statement_of};
 use crate::told::Told;
 use host::Failure;
 use sources::{LONGEST_SOURCE, Place, ReadFault, read_source};
@@ -396,7 +396,8 @@ fn explain_use(page: &mut Page, refused: &Refused, fault: &typing::Fault) {
         _ => false,
     };
     let is_member = refused.dot() == Some(Dot::Member);
-    let is_function = is_built_in(word.text);
+    let is_assigned = statement_of(refused.before).is_empty();
+    let is_function = is_built_in(word.text) && is_assigned == is_same_name(word.text, b"OUTPUT");
     let is_move = is_same_name(word.text, b"MOVE");
     let is_hidden = match fault.cause {
         typing::Cause::SubscriptMismatch => is_function && has_list && !is_member,

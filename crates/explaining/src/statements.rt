@@ -231,6 +231,15 @@ pub(crate) fn open_list<'w, 'a>(words: &'w [Word<'a>]) -> OpenList<'w, 'a> {
     OpenList { at, item }
 }
 
+/// Whether the last list in parentheses that is open after words has the members of a structure.
+pub(crate) fn is_in_structure(words: &[Word]) -> bool {
+    let list = open_list(words);
+    match words.get(list.at.saturating_sub(1)) {
+        Some(before) => list.at > 0 && before.kind == Kind::Reserved(ReservedWord::Structure),
+        None => false,
+    }
+}
+
 // Whether an item of a list is a variable: a name, with members and lists after it.
 fn is_variable(item: &[Word]) -> bool {
     let mut depth = 0_u32;
