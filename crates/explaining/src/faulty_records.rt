@@ -3,7 +3,7 @@
 use crate::explanation::Seen;
 use crate::kept_files::kept_bytes;
 use crate::kinds::is_text;
-use crate::page::{Page, Piece};
+use crate::page::{MARGIN, Page, Piece};
 use crate::sentences::said_of;
 use host::Failure;
 use object_commands::read;
@@ -102,10 +102,12 @@ fn record_at(bytes: &[u8], count: usize) -> Option<Place> {
 
 // The two hexadecimal digits of a byte.
 fn digits_of(byte: u8) -> [u8; 2] {
-    [
-        DIGITS[(byte / 16) as usize],
-        DIGITS[(byte % 16) as usize],
-    ]
+    [DIGITS[(byte / 16) as usize], DIGITS[(byte % 16) as usize]]
+}
+
+// What Intel's tools put into a record of a type.
+fn content_of(kind: u8) -> Option<&'static str> {
+    said_of(CONTENTS, &digits_of(kind))
 }
 
 // Adds which record it is, and what Intel's tools put there.
@@ -120,11 +122,8 @@ fn add_place(page: &mut Page, place: Place) {
         return;
     }
     let digits = digits_of(place.kind);
-    let (mark, content) = match said_of(CONTENTS, &digits) {
-        Some(content) => (": ", content),
-        None => ("", ""),
-    };
-    page.line(&[
+    page.pieces(&[
+        Piece::Text(MARGIN),
         Piece::Text("Record "),
         Piece::Number(place.number),
         Piece::Text(", after "),
@@ -132,9 +131,11 @@ fn add_place(page: &mut Page, place: Place) {
         Piece::Text(" bytes, has the type "),
         Piece::Shown(&digits),
         Piece::Text("H"),
-        Piece::Text(mark),
-        Piece::Text(content),
     ]);
+    if let Some(content) = content_of(place.kind) {
+        page.pieces(&[Piece::Text(": "), Piece::Text(content)]);
+    }
+    page.pieces(&[Piece::Text("\n")]);
 }
 
 /// Adds at which record of an object file its fault is. A text has no records.
