@@ -3,7 +3,7 @@
 use crate::explanation::Seen;
 use crate::kept_files::kept_bytes;
 use crate::kinds::is_text;
-use crate::page::{MARGIN, Page, Piece};
+use crate::page::{MARGIN, Page, Piece, digits_of};
 use crate::sentences::said_of;
 use host::Failure;
 use object_commands::read;
@@ -33,8 +33,6 @@ const CONTENTS: &str = "\
 // The type of the record that ends a file.
 const END: u8 = 0x0E;
 
-const DIGITS: &[u8; 16] = b"0123456789ABCDEF";
-
 // How often the bytes of a file are halved at most.
 const HALVINGS: u32 = 32;
 
@@ -61,6 +59,9 @@ fn first_faulty(alloc: Global, bytes: &[u8]) -> usize {
     let mut sound: usize = 0;
     let mut faulty = bytes.len();
     for _ in 0..HALVINGS {
+        if faulty.saturating_sub(sound) < 2 {
+            break;
+        }
         let middle = sound.saturating_add(faulty.saturating_sub(sound) / 2);
         if is_faulty(alloc, bytes, middle) {
             faulty = middle;
@@ -100,11 +101,6 @@ fn record_at(bytes: &[u8], count: usize) -> Option<Place> {
     None
 }
 
-// The two hexadecimal digits of a byte.
-fn digits_of(byte: u8) -> [u8; 2] {
-    [DIGITS[(byte / 16) as usize], DIGITS[(byte % 16) as usize]]
-}
-
 // What Intel's tools put into a record of a type.
 fn content_of(kind: u8) -> Option<&'static str> {
     said_of(CONTENTS, &digits_of(kind))
@@ -115,9 +111,9 @@ fn add_place(page: &mut Page, place: Place) {
     let before = u32::try_from(place.before).unwrap_or(u32::MAX);
     if place.earlier == END {
         page.line(&[
-            Piece::Text("The file ends after "),
+            Piece::Text("The end of file record ends after "),
             Piece::Number(before),
-            Piece::Text(" bytes"),
+            Piece::Text(" bytes, and more follows"),
         ]);
         return;
     }

@@ -6,8 +6,9 @@ use crate::left_out::is_same_name;
 use crate::lines::show_line_of;
 use crate::page::{MARGIN, Page, Piece};
 use crate::refused::words_of;
-use sources::{Name, read_source};
+use sources::read_source;
 use std::alloc::{AllocError, Global};
+use symbols::{Name, NameSet};
 use typed_trees::{GlobalItem, Typed, Visibility};
 use words::{Kind, Mark, ReservedWord, Word};
 
@@ -62,6 +63,15 @@ fn shared_name(typed: &Typed, item: GlobalItem) -> Option<(Name, bool)> {
     }
 }
 
+// Names as a set.
+fn set_of(alloc: Global, names: &[Name]) -> Result<NameSet, AllocError> {
+    let mut set = NameSet::new(alloc);
+    for name in names {
+        set.insert(*name)?;
+    }
+    Ok(set)
+}
+
 impl Shared {
     /// No names.
     pub(crate) fn new(alloc: Global) -> Shared {
@@ -87,9 +97,11 @@ impl Shared {
 
     /// The EXTERNAL names that are not PUBLIC, each of them once.
     pub(crate) fn missing(&self, alloc: Global) -> Result<Vec<Name>, AllocError> {
+        let mut known = set_of(alloc, self.public.as_slice())?;
         let mut missing = Vec::new(alloc);
         for name in &self.external {
-            if !self.public.contains(name) && !missing.contains(name) {
+            if !known.contains(*name) {
+                known.insert(*name)?;
                 missing.push(*name)?;
             }
         }
@@ -204,7 +216,7 @@ struct Statement {
 }
 
 impl Statement {
-    // A statement of which no word was seen.
+    // A statement before its first word.
     fn new() -> Statement {
         Statement {
             line: None,

@@ -14,7 +14,7 @@ pub(crate) enum Within {
 // What is said of a byte that begins no character of UTF-8.
 const NO_ASCII: &str = "is no character of ASCII: write one";
 
-// What is said of the first byte of a character of UTF-8 that is none of those below.
+// What is said of the first byte of a character of UTF-8 that is not listed below.
 const OF_UTF8: &str =
     "begins a character of UTF-8: write ASCII; iconv -f utf-8 -t ascii//TRANSLIT does most";
 

@@ -3,6 +3,9 @@
 /// What an object file begins with: the type of its first record.
 pub(crate) const OBJECT: u8 = 2;
 
+// What a library of ISIS-II begins with: the type of its first record.
+const LIBRARY: u8 = 0x2C;
+
 // What is said of an object file where a command takes sources.
 fn object_as_source(command: &str) -> &'static str {
     match command {
@@ -22,20 +25,20 @@ fn object_as_source(command: &str) -> &'static str {
     }
 }
 
-/// What is said of a file where a command takes a source, if it is an object file, or a text of Intel HEX, which begins with a
-/// colon and a digit.
+/// What is said of a file where a command takes a source, if it is an object file, a text of Intel HEX, which begins with a
+/// colon and a digit, or begins as a library of ISIS-II.
 pub(crate) fn as_source(bytes: &[u8], command: &str) -> Option<&'static str> {
     match bytes {
         [OBJECT, ..] => Some(object_as_source(command)),
         [b':', digit, ..] if digit.is_ascii_hexdigit() => {
             Some("A HEX text, where a source is taken: no command reads one")
         }
+        [LIBRARY, ..] if !is_text(bytes) => Some(
+            "It begins as a library of ISIS-II, where a source is taken: there LINK takes a module out, as LINK LIBRARY(MODULE) TO FILE",
+        ),
         _ => None,
     }
 }
-
-// What a library of ISIS-II begins with: the type of its first record.
-const LIBRARY: u8 = 0x2C;
 
 /// Whether bytes are those of a text: printed characters and blanks, tabs, line ends, form feeds and ^Z alone.
 pub(crate) fn is_text(bytes: &[u8]) -> bool {

@@ -40,7 +40,7 @@ const AFTER_BOUND: &str = "TO\nBY\nAND\nOR\nXOR\nMOD\n";
 // The word that may stand before a value.
 const BEFORE_VALUE: &str = "NOT\n";
 
-// The words that may begin a statement or a declaration, by what comes after them.
+// The words that may begin a statement or a declaration, by the word after them.
 const BEFORE_SEMICOLON: &str = "RETURN\nHALT\nDO\n";
 
 const BEFORE_SEMICOLON_OF_LIST: &str = "END\nRETURN\nHALT\nDO\n";

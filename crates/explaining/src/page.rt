@@ -4,11 +4,15 @@ use itoa::Buffer;
 use std::alloc::Global;
 use std::io::Write;
 
-// The digits of a byte that is no printed character.
 const DIGITS: &[u8; 16] = b"0123456789ABCDEF";
 
 /// The margin before each line.
 pub(crate) const MARGIN: &str = "    ";
+
+/// The two hexadecimal digits of a byte.
+pub(crate) fn digits_of(byte: u8) -> [u8; 2] {
+    [DIGITS[(byte / 16) as usize], DIGITS[(byte % 16) as usize]]
+}
 
 /// A piece of a line.
 #[derive(Clone, Copy)]
@@ -83,8 +87,7 @@ impl Page {
             } else if *byte == b'\t' {
                 self.text(" ");
             } else {
-                let high = DIGITS[(*byte / 16) as usize];
-                let low = DIGITS[(*byte % 16) as usize];
+                let [high, low] = digits_of(*byte);
                 self.add(&[b'<', high, low, b'>']);
             }
         }

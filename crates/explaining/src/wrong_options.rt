@@ -42,7 +42,7 @@ fn cure_of(command: &str, option: &str) -> Option<&'static str> {
             "--org" | "--origin",
         ) => { Some("The address of the code comes after --code, in decimal") }
         ("explain", "DIVIDE" | "BYTE" | "CONSTANT" | "STACK") => Some(
-            "plm explain takes one word: OUTSIDE, of which it explains each reason",
+            "plm explain takes one word. plm explain OUTSIDE explains each reason",
         ),
         ("-v", "-v") | (_, "-V") => Some("plm --version prints the version"),
         _ => None,
