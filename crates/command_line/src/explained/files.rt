@@ -1,7 +1,7 @@
 //! What is printed of the numbers of faults of object files, HEX texts and assembled code, and of memory. `tools/faults --write` makes it of docs/faults.md.
 
 /// The pages, with form feeds between them. Each begins with its number, on a line of its own.
-pub const FILES: [u8; 11688] = *b"\
+pub const FILES: [u8; 12144] = *b"\
 O1
 
 The file ends within a record, or without the end of file record: it was cut
@@ -68,14 +68,16 @@ numbers. Cure: the right file; send it as binary; make it again with
 \x0cO5
 
 A record where it is not allowed, or bytes after the end of the file: files put
-together with `cat`, or zeros and ^Z that fill the last disk block.
+together with `cat`, or zeros and ^Z that fill the last disk block. Or a tool of
+the time has another order: here the header comes first, then external names,
+public names, and contents, each followed by its fixes.
 
     $ cat examples/objects/main.obj examples/objects/show.obj > bad.obj
     $ ./plm locate bad.obj
     O5 bad.obj 0
 
 Cure: `plm link` the files; cut the file where its end of file record ends (0EH,
-01H, 00H, 0F1H).
+01H, 00H, 0F1H). For another order see O6.
 
 These say that a file is not an object of the profile in `docs/formats.md`,
 whose table gives the exact rules. \"Where\" is the file. The most common causes:
@@ -87,13 +89,18 @@ numbers. Cure: the right file; send it as binary; make it again with
 \x0cO6
 
 A body that its record may not have: a name with small letters or other
-characters, a segment of common data, a name that occurs twice. A header with
-the module's name in small letters:
+characters, as `?`; a name that occurs twice; a segment of common data, or
+Intel's segment 4 (MEMORY), also with length 0; a content or a start that is
+absolute, as ASEG and LOCATE make them. A header with the module's name in small
+letters:
 
     $ printf '\\002\\011\\000\\001a\\000\\000\\001\\004\\000\\003\\213' > bad.obj
     $ tail -c +13 examples/objects/main.obj >> bad.obj
     $ ./plm locate bad.obj
     O6 bad.obj 0
+
+Cure: `examples/assemble`, where there is the assembler source. What is absolute
+also runs from its HEX text: \"An old HEX file\" in `docs/old-sources.md`.
 
 These say that a file is not an object of the profile in `docs/formats.md`,
 whose table gives the exact rules. \"Where\" is the file. The most common causes:

@@ -1,7 +1,7 @@
 //! What is printed of the numbers of faults of the modules of a program together, of their places, and of files and options; and of the ends of runs. `tools/faults --write` makes it of docs/faults.md.
 
 /// The pages, with form feeds between them. Each begins with its number, on a line of its own.
-pub const PROGRAMS: [u8; 11143] = *b"\
+pub const PROGRAMS: [u8; 11202] = *b"\
 J1
 
 An EXTERNAL name that no module has as PUBLIC, used or not. \"Where\" is the name.
@@ -158,7 +158,7 @@ of S, which lies 9 bytes after the beginning of `high.obj` here:
     L5 - 0
 
 Cure: let the segment begin at a page (alignment 1), as that of `page.obj` does,
-or use both bytes.
+or use both bytes. For the address of an absolute name only the second helps.
 \x0cP1
 
 Code, data and stack overlap. By default `--code` is 256, `--data` 16384, and
