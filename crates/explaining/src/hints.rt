@@ -6,10 +6,8 @@ use crate::misspelled::{Meant, is_near_do, meant_at, said_of_file};
 use crate::naming::{DECLARING, awaited_after, declares_first, find_object, is_declared, is_known};
 use crate::openers::{Opened, Opener};
 use crate::page::{Page, Piece};
-use crate::statements::{
-    depth_of, is_reserved_name, line_of_do, may_end_after, said_at, said_of_assignment,
-    statement_of,
-};
+use crate::spots::{said_at, said_of_assignment};
+use crate::statements::{depth_of, is_reserved_name, line_of_do, may_end_after, statement_of};
 use words::{Kind, Mark, ReservedWord, Word};
 
 /// What is likely wrong.
@@ -246,39 +244,29 @@ fn hint_of_declaration<'a>(before: &Word, word: &Word, open: &[Opener<'a>]) -> O
     }
 }
 
-// That an assignment in an expression has no parentheses of its own.
-fn hint_of_assignment(before: &[Word], after: &[Word]) -> Option<Hint<'static>> {
-    Some(Hint::Said(said_of_assignment(before, after)?))
-}
-
 // What is likely wrong at a word that may stand elsewhere, by itself and the word before it.
-fn hint_of_pair(before: &Word, word: &Word) -> Option<Hint<'static>> {
+fn said_of_pair(before: &Word, word: &Word) -> Option<&'static str> {
     match (before.kind, word.kind) {
-        (_, Kind::Mark(Mark::AssignSign)) => Some(Hint::Said(
-            "An assignment has =, and := stands only in parentheses in an expression",
-        )),
-        (before_kind, Kind::Reserved(ReservedWord::Else)) => {
-            if before_kind == Kind::Mark(Mark::Semicolon) {
-                Some(Hint::Said(
-                    "ELSE comes after the one statement of THEN: DO; and END; go around several",
-                ))
-            } else {
-                Some(Hint::Said("A semicolon is missing before ELSE"))
-            }
+        (_, Kind::Mark(Mark::AssignSign)) => {
+            Some("An assignment has =, and := stands only in parentheses in an expression")
         }
+        (Kind::Mark(Mark::Semicolon), Kind::Reserved(ReservedWord::Else)) => {
+            Some("ELSE comes after the one statement of THEN: DO; and END; go around several")
+        }
+        (_, Kind::Reserved(ReservedWord::Else)) => Some("A semicolon is missing before ELSE"),
         (Kind::Mark(Mark::LeftParenthesis | Mark::Comma), Kind::Mark(Mark::MinusSign)) => {
-            Some(Hint::Said("No negative number here: for -1 write 255, or 65535 of an ADDRESS"))
+            Some("No negative number here: for -1 write 255, or 65535 of an ADDRESS")
         }
-        (Kind::Reserved(ReservedWord::Goto), Kind::Number(_)) => Some(Hint::Said(GO_TO_ADDRESS)),
+        (Kind::Reserved(ReservedWord::Goto), Kind::Number(_)) => Some(GO_TO_ADDRESS),
         (Kind::Mark(Mark::EqualSign), Kind::Mark(Mark::EqualSign)) => {
-            Some(Hint::Said("An assignment and a comparison both have one ="))
+            Some("An assignment and a comparison both have one =")
         }
         _ => None,
     }
 }
 
 // What is likely wrong where parentheses hold nothing, by the word before them.
-fn hint_of_nothing(before: &[Word], word: &Word) -> Option<Hint<'static>> {
+fn said_of_nothing(before: &[Word], word: &Word) -> Option<&'static str> {
     let [earlier @ .., owner, last] = before else {
         return None;
     };
@@ -289,19 +277,19 @@ fn hint_of_nothing(before: &[Word], word: &Word) -> Option<Hint<'static>> {
     match (last.kind, word.kind, owner.kind) {
         (Kind::Mark(Mark::LeftParenthesis), Kind::Mark(Mark::RightParenthesis), kind) =>
             match kind {
-                Kind::Name if is_declaring => Some(Hint::Said(
-                    "A dimension is a number, or * before a list of values",
-                )),
-                Kind::Name if is_built_in(owner.text) => Some(Hint::Said(NO_VALUE)),
-                Kind::Name if find_object(before, owner.text).is_some() => Some(Hint::Said(
-                    "A subscript is missing between the parentheses, or they are superfluous",
-                )),
-                Kind::Name => Some(Hint::Said("Without arguments there are no parentheses")),
-                Kind::Reserved(ReservedWord::Procedure) => Some(Hint::Said(
-                    "Without parameters there are no parentheses",
-                )),
+                Kind::Name if is_declaring => {
+                    Some("A dimension is a number, or * before a list of values")
+                }
+                Kind::Name if is_built_in(owner.text) => Some(NO_VALUE),
+                Kind::Name if find_object(before, owner.text).is_some() => {
+                    Some("A subscript is missing between the parentheses, or they are superfluous")
+                }
+                Kind::Name => Some("Without arguments there are no parentheses"),
+                Kind::Reserved(ReservedWord::Procedure) => {
+                    Some("Without parameters there are no parentheses")
+                }
                 Kind::Reserved(ReservedWord::At | ReservedWord::Data | ReservedWord::Initial) => {
-                    Some(Hint::Said(NO_VALUE))
+                    Some(NO_VALUE)
                 }
                 _ => None,
             },
@@ -310,26 +298,26 @@ fn hint_of_nothing(before: &[Word], word: &Word) -> Option<Hint<'static>> {
 }
 
 // That GO TO comes before an address.
-fn hint_of_go(after: &[Word]) -> Option<Hint<'static>> {
+fn said_of_go(after: &[Word]) -> Option<&'static str> {
     match after {
         [go, to, address, ..]
             if go.kind == Kind::Reserved(ReservedWord::Go)
                 && to.kind == Kind::Reserved(ReservedWord::To)
-                && matches!(address.kind, Kind::Number(_)) => { Some(Hint::Said(GO_TO_ADDRESS)) }
+                && matches!(address.kind, Kind::Number(_)) => { Some(GO_TO_ADDRESS) }
         _ => None,
     }
 }
 
 // That EOF comes before the end of the module.
-fn hint_of_eof(last: &Word, after: &[Word]) -> Option<Hint<'static>> {
+fn said_of_eof(last: &Word, after: &[Word]) -> Option<&'static str> {
     match after {
         [eof, ..]
             if eof.kind != Kind::Reserved(ReservedWord::Eof)
                 || last.kind != Kind::Mark(Mark::Semicolon) => { None }
-        [_] => Some(Hint::Said("EOF is left out, and an END may be missing before it")),
-        [_, next, ..] if next.kind == Kind::Reserved(ReservedWord::End) => Some(Hint::Said(
-            "EOF is left out: delete it",
-        )),
+        [_] => Some("EOF is left out, and an END may be missing before it"),
+        [_, next, ..] if next.kind == Kind::Reserved(ReservedWord::End) => {
+            Some("EOF is left out: delete it")
+        }
         _ => None,
     }
 }
@@ -343,32 +331,30 @@ fn is_location(words: &[Word]) -> bool {
 }
 
 // What is likely wrong at a word, by the words of its statement.
-fn hint_of_statement(before: &[Word], word: &Word) -> Option<Hint<'static>> {
+fn said_of_statement(before: &[Word], word: &Word) -> Option<&'static str> {
     match word.kind {
-        Kind::Mark(Mark::LeftParenthesis) if is_location(before) => Some(Hint::Said(
-            "A location here has no subscript: .X + a number of bytes",
-        )),
-        Kind::Mark(Mark::Semicolon) if is_call(before) => Some(Hint::Said(
-            "A statement that calls a procedure begins with CALL",
-        )),
+        Kind::Mark(Mark::LeftParenthesis) if is_location(before) => {
+            Some("A location here has no subscript: .X + a number of bytes")
+        }
+        Kind::Mark(Mark::Semicolon) if is_call(before) => {
+            Some("A statement that calls a procedure begins with CALL")
+        }
         Kind::Reserved(reserved) if awaits_then(before) && BEGINNING.contains(&reserved) => {
-            Some(Hint::Said("THEN may be missing before it"))
+            Some("THEN may be missing before it")
         }
         _ => None,
     }
 }
 
 // What to write for a word, where it is one that is left out, or FOREVER comes before it.
-fn hint_of_word(before: &Word, word: &Word) -> Option<Hint<'static>> {
+fn said_of_word(before: &Word, word: &Word) -> Option<&'static str> {
     if word.kind == Kind::Reserved(ReservedWord::Eof) {
-        return None;
-    }
-    let left_out = if before.text.eq_ignore_ascii_case(b"FOREVER") {
+        None
+    } else if before.text.eq_ignore_ascii_case(b"FOREVER") {
         cure_of(word.text).or(cure_of(before.text))
     } else {
         cure_of(word.text)
-    };
-    Some(Hint::Said(left_out?))
+    }
 }
 
 // What to write for the last of words, if it is one of another language that begins its statement, or comes after DO there.
@@ -385,16 +371,6 @@ fn strange_at(before: &[Word]) -> Option<&'static str> {
         return None;
     }
     cure_of_strange(name)
-}
-
-// What to write for a word of another language, as a hint.
-fn hint_of_strange(before: &[Word]) -> Option<Hint<'static>> {
-    Some(Hint::Said(strange_at(before)?))
-}
-
-// What to write for a word that an included file defined, as a hint.
-fn hint_of_file(words: &[Word], count: usize) -> Option<Hint<'static>> {
-    Some(Hint::Said(said_of_file(words, count)?))
 }
 
 // That a reserved word is misspelled.
@@ -435,18 +411,8 @@ fn hint_of_name<'a>(last: &Word, word: &Word<'a>, next: Option<&Word>) -> Option
     }
 }
 
-// What is likely wrong at the first of the words `after`, by its statement.
-fn hint_of_words(before: &[Word], after: &[Word]) -> Option<Hint<'static>> {
-    Some(Hint::Said(said_at(before, after)?))
-}
-
-// What is likely wrong in a dimension, as a hint.
-fn hint_of_dimension(before: &[Word], after: &[Word]) -> Option<Hint<'static>> {
-    Some(Hint::Said(said_of_dimension(before, after)?))
-}
-
 // That a semicolon may be missing before a word on its line.
-fn hint_of_line(before: &[Word], word: &Word, next: Option<&Word>) -> Option<Hint<'static>> {
+fn said_of_line(before: &[Word], word: &Word, next: Option<&Word>) -> Option<&'static str> {
     let is_assignment = match next {
         Some(next) => next.kind == Kind::Mark(Mark::EqualSign),
         None => false,
@@ -456,7 +422,7 @@ fn hint_of_line(before: &[Word], word: &Word, next: Option<&Word>) -> Option<Hin
             if may_part(last, word)
                 && may_end_after(before)
                 && (word.kind != Kind::Name || is_assignment) => {
-            Some(Hint::Said("A semicolon may be missing before it"))
+            Some("A semicolon may be missing before it")
         }
         _ => None,
     }
@@ -566,29 +532,81 @@ fn is_case(words: &[Word]) -> bool {
 }
 
 // That a DO CASE has no ELSE, if one stands directly in it.
-fn hint_of_else(before: &[Word], word: &Word, open: &[Opener]) -> Option<Hint<'static>> {
+fn said_of_else(before: &[Word], word: &Word, open: &[Opener]) -> Option<&'static str> {
     match (before, open) {
         ([.., last], [.., opener])
             if word.kind == Kind::Reserved(ReservedWord::Else)
                 && last.kind == Kind::Mark(Mark::Semicolon)
                 && is_case(before.get(opener.at..).unwrap_or(&[])) => {
-            Some(Hint::Said("A DO CASE has no ELSE"))
+            Some("A DO CASE has no ELSE")
         }
         _ => None,
     }
 }
 
-// What is likely wrong at the first of the words `after`, by its statement alone.
-fn hint_in_statement<'a>(before: &[Word<'a>], after: &[Word<'a>]) -> Option<Hint<'a>> {
+// A sentence as a hint.
+fn said(sentence: Option<&'static str>) -> Option<Hint<'static>> {
+    Some(Hint::Said(sentence?))
+}
+
+// What is likely wrong at the first of the words `after`, by it and the words around it.
+fn said_there(before: &[Word], after: &[Word], open: &[Opener]) -> Option<&'static str> {
     let ([.., last], [word, ..]) = (before, after) else {
         return None;
     };
-    let next = after.get(1);
-    hint_of_do(before)
-        .or(hint_of_name(last, word, next))
-        .or(hint_of_words(before, after))
-        .or(hint_of_dimension(before, after))
-        .or(hint_of_line(before, word, next))
+    said_of_else(before, word, open)
+        .or(said_of_assignment(before, after))
+        .or(said_of_nothing(before, word))
+        .or(said_of_go(after))
+        .or(said_of_eof(last, after))
+        .or(said_of_pair(last, word))
+        .or(said_of_statement(before, word))
+}
+
+// What to write for the first of the words `after`, if it is no name that is declared.
+fn said_of_left_out(before: &[Word], after: &[Word]) -> Option<&'static str> {
+    match (before, after) {
+        ([.., last], [word, ..]) if !is_declared(before, word.text) => said_of_word(last, word),
+        _ => None,
+    }
+}
+
+// What is likely wrong at the first of the words `after`, by its statement alone.
+fn said_in_statement(before: &[Word], after: &[Word]) -> Option<&'static str> {
+    let [word, ..] = after else {
+        return None;
+    };
+    said_at(before, after)
+        .or(said_of_dimension(before, after))
+        .or(said_of_line(before, word, after.get(1)))
+}
+
+// What is likely wrong at the first of the words `after`, by words that stand where others belong.
+fn hint_of_order<'a>(
+    before: &[Word<'a>],
+    word: &Word<'a>,
+    next: Option<&Word<'a>>,
+    open: &[Opener<'a>],
+) -> Option<Hint<'a>> {
+    let [.., last] = before else {
+        return None;
+    };
+    hint_of_reserved(before, word, next)
+        .or(hint_of_based(before, word, next))
+        .or(hint_of_end(last, word, open))
+        .or(hint_of_declaration(last, word, open))
+}
+
+// What is likely wrong at a word by its statement: that one before it has no end, or that a name is reserved.
+fn hint_in_statement<'a>(
+    before: &[Word],
+    word: &Word<'a>,
+    next: Option<&Word>,
+) -> Option<Hint<'a>> {
+    let [.., last] = before else {
+        return None;
+    };
+    hint_of_do(before).or(hint_of_name(last, word, next))
 }
 
 /// What is likely wrong at a word of a source, with all words, those before it, it with those after it, and what was open before
@@ -600,10 +618,10 @@ pub(crate) fn hint_at<'a>(
     after: &[Word<'a>],
     open: &[Opener<'a>],
 ) -> Option<Hint<'a>> {
-    let next = after.get(1);
-    let strange = hint_of_strange(before)
-        .or(hint_of_file(words, before.len()))
-        .or(hint_of_meant(words, before.len()));
+    let count = before.len();
+    let strange = said(strange_at(before).or(said_of_file(words, count))).or(hint_of_meant(
+        words, count,
+    ));
     match before {
         [] => hint_of_first(word, after),
         [_] | [_, _] => Some(hint_of_module(before, word)),
@@ -616,26 +634,11 @@ pub(crate) fn hint_at<'a>(
             what: missing_before(before, after),
             line: last.line,
         }),
-        [.., last] => {
-            let hint = strange
-                .or(hint_of_reserved(before, word, next))
-                .or(hint_of_based(before, word, next))
-                .or(hint_of_else(before, word, open))
-                .or(hint_of_end(last, word, open))
-                .or(hint_of_declaration(last, word, open))
-                .or(hint_of_assignment(before, after))
-                .or(hint_of_nothing(before, word))
-                .or(hint_of_go(after))
-                .or(hint_of_eof(last, after))
-                .or(hint_of_pair(last, word))
-                .or(hint_of_statement(before, word));
-            let hint = if is_declared(before, word.text) {
-                hint
-            } else {
-                hint.or(hint_of_word(last, word))
-            };
-            hint.or(hint_in_statement(before, after))
-        }
+        _ => strange
+            .or(hint_of_order(before, word, after.get(1), open))
+            .or(said(said_there(before, after, open).or(said_of_left_out(before, after))))
+            .or(hint_in_statement(before, word, after.get(1)))
+            .or(said(said_in_statement(before, after))),
     }
 }
 

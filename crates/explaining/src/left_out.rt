@@ -23,6 +23,9 @@ LABEL A label needs no declaration: delete it
 LF LF came from an included file: DECLARE LF LITERALLY '0AH'
 MEMORY MEMORY is left out: DECLARE MEMORY(4096) BYTE AT (8000H)
 MINUS MINUS is left out: SBB(A, B) of examples/arithmetic, for the - of the byte before too, after CARRY = 0; within DEC( ) it is DEC$SBB(A, B)
+MON1 MON1 is of CP/M: declare it EXTERNAL, as in examples/cpm/calls.plm
+MON2 MON2 is of CP/M: declare it EXTERNAL, as in examples/cpm/calls.plm
+MON3 MON3 is of CP/M: declare it EXTERNAL, as in examples/cpm/calls.plm
 PARITY PARITY is left out: compare the value
 PLUS PLUS is left out: ADC(A, B) of examples/arithmetic, for the + of the byte before too, after CARRY = 0; within DEC( ) it is DEC$ADC(A, B)
 POINTER POINTER is of PL/M-86: ADDRESS
@@ -74,14 +77,32 @@ SHR
 SIZE
 ";
 
-/// Whether a word is the name of a built-in procedure that stands in expressions, or of OUTPUT.
-pub(crate) fn is_built_in(word: &[u8]) -> bool {
-    for name in BUILT_IN.lines() {
+// Whether a word is one of the names of a list, each on a line.
+fn is_in(list: &'static str, word: &[u8]) -> bool {
+    for name in list.lines() {
         if is_same_name(word, name.as_bytes()) {
             return true;
         }
     }
     false
+}
+
+/// Whether a word is the name of a built-in procedure that stands in expressions, or of OUTPUT.
+pub(crate) fn is_built_in(word: &[u8]) -> bool {
+    is_in(BUILT_IN, word)
+}
+
+// The procedures without a result that are left out, and those of CP/M.
+const CALLED: &str = "\
+MON1
+MON2
+MON3
+TIME
+";
+
+/// Whether a word is the name of a procedure that programs of the time call, and that is left out, or is one of CP/M.
+pub(crate) fn is_called_of_time(word: &[u8]) -> bool {
+    is_in(CALLED, word)
 }
 
 /// Whether two words of a source are the same name.

@@ -31,6 +31,7 @@ mod ranges;
 mod refused;
 mod sentences;
 mod spelling;
+mod spots;
 mod statements;
 mod told;
 mod twice;

@@ -129,7 +129,7 @@ fn are_swapped(name: &[u8], reserved: &[u8]) -> bool {
 }
 
 // Whether a name is a reserved word with two letters swapped, with 0 or 1 in place of letters, or if it has at least four letters,
-// with one letter wrong, missing or too many.
+// with one letter wrong, missing or too many; one of three letters may have one too many at its end.
 fn is_near(name: &[u8], reserved: &[u8]) -> bool {
     let front = same_front(name, reserved);
     let had = name.get(front..).unwrap_or(&[]);
@@ -140,6 +140,7 @@ fn is_near(name: &[u8], reserved: &[u8]) -> bool {
     let wanted_after = wanted.get(2..).unwrap_or(&[]);
     are_alike(had, wanted)
         || are_swapped(had, wanted) && are_alike(had_after, wanted_after)
+        || reserved.len() == 3 && wanted.is_empty() && had.len() == 1
         || reserved.len() >= 4
             && (are_alike(had_later, wanted_later)
                 || are_alike(had, wanted_later)

@@ -1,6 +1,7 @@
 //! Where names are declared among the words of a source.
 
 use crate::left_out::is_same_name;
+use crate::openers::Opener;
 use words::{Kind, Mark, ReservedWord, Word};
 
 /// The words and marks that follow a name in its declaration.
@@ -218,4 +219,20 @@ pub(crate) fn find_in_block<'a>(
         naming.add(word.kind);
     }
     found
+}
+
+// The line of the last word that declares an object of a name in the block that begins after this many words.
+fn line_in_block(words: &[Word], at: usize, name: &[u8]) -> Option<u32> {
+    let (_, block) = words.split_at(at.min(words.len()));
+    let found = find_in_block(block, name, Named::Object)?;
+    Some(found.line)
+}
+
+/// The line of the declaration of the object that a name is after words, in the innermost of the blocks that are open there.
+pub(crate) fn line_of_object(open: &[Opener], words: &[Word], name: &[u8]) -> Option<u32> {
+    let mut line = None;
+    for opener in open {
+        line = line_in_block(words, opener.at, name).or(line);
+    }
+    line
 }

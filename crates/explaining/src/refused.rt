@@ -5,13 +5,17 @@ use crate::explanation::Seen;
 use crate::high_bytes::{Within, add_wrong_byte};
 use crate::hints::{Hint, hint_at, is_around};
 use crate::kinds::as_source;
-use crate::left_out::{cure_of, is_built_in, is_number_without_digit, is_same_name};
+use crate::left_out::{
+    cure_of, is_built_in, is_called_of_time, is_number_without_digit, is_same_name,
+};
 use crate::lines::{
     has_lone_quote, is_blank, is_number, line_before, numbered_line, show_line, show_place,
 };
 use crate::listing::is_listing;
 use crate::named::{find_named, leaves_procedure};
-use crate::naming::{Named, awaited_after, find_defined, find_in_block, find_object};
+use crate::naming::{
+    Named, awaited_after, find_defined, find_in_block, find_object, line_of_object,
+};
 use crate::number_spelling::{explain_after_dollar, explain_name_as_number, explain_number};
 use crate::numbering::{cure_after, cure_before, is_after_source};
 use crate::openers::{Opened, Opener, openers};
@@ -358,27 +362,27 @@ fn explain_name(page: &mut Page, refused: &Refused) {
 }
 
 // Adds where something of a name is that is not known and names no member, or what to write for it. A procedure that is called is
-// none of the words that are left out, but for TIME.
+// none of the words that are left out, but for TIME and those of CP/M.
 fn explain_unknown(page: &mut Page, refused: &Refused, name: &[u8]) {
     let is_called = match refused.before {
         [.., last] => last.kind == Kind::Reserved(ReservedWord::Call),
         [] => false,
     };
-    let cure = if is_called && !is_same_name(name, b"TIME") {
+    let cure = if is_called && !is_called_of_time(name) {
         None
     } else {
         cure_of(name)
     };
     if let Some(at) = find_object(refused.words, name) {
         explain_declared(page, refused, at);
-    } else if let Some(cure) = cure {
-        page.sentence(&[Piece::Text(cure)]);
     } else if let Some(line) = find_named(refused.words, name, true) {
         page.sentence(&[
             Piece::Text("The procedure of this name is declared in line "),
             Piece::Number(line),
         ]);
         show_line(page, refused.text, line);
+    } else if let Some(cure) = cure {
+        page.sentence(&[Piece::Text(cure)]);
     } else if refused.dot() == Some(Dot::Location) {
         explain_location(page, refused, name);
     } else if refused.is_value() {
@@ -386,7 +390,8 @@ fn explain_unknown(page: &mut Page, refused: &Refused, name: &[u8]) {
     }
 }
 
-// Adds that a declaration hides the built-in procedure of its name, where that is used.
+// Adds that a declaration hides the built-in procedure of its name, where that is used, or where a variable is declared whose
+// subscript is missing or superfluous.
 fn explain_use(page: &mut Page, refused: &Refused, fault: &typing::Fault) {
     let Some(word) = refused.word() else {
         return;
@@ -410,6 +415,22 @@ fn explain_use(page: &mut Page, refused: &Refused, fault: &typing::Fault) {
             Piece::Shown(word.text),
             Piece::Text(" hides the built-in procedure of its name"),
         ]);
+    } else if matches!(fault.cause, typing::Cause::SubscriptMismatch) && !is_member {
+        add_declaration(page, refused, word);
+    }
+}
+
+// Adds where the object of a word is declared, if that is on another line.
+fn add_declaration(page: &mut Page, refused: &Refused, word: Word) {
+    let open = refused.open_after(page, refused.before);
+    let line = line_of_object(open.as_slice(), refused.before, word.text).unwrap_or(word.line);
+    if line != word.line {
+        page.sentence(&[
+            Piece::Shown(word.text),
+            Piece::Text(" is declared in line "),
+            Piece::Number(line),
+        ]);
+        show_line(page, refused.text, line);
     }
 }
 

@@ -1,25 +1,7 @@
-//! What is likely wrong at a word of a source, by the words of its statement or of its declaration.
+//! The words of statements and of declarations.
 
 use crate::naming::{Named, awaited_after};
 use words::{Kind, Mark, ReservedWord, Word};
-
-// A word that cannot stand where it stands: the words of its statement before it, the last word before it, it with the words
-// after it, and how many parentheses are open.
-#[derive(Clone, Copy)]
-struct Spot<'w, 'a> {
-    statement: &'w [Word<'a>],
-    last: Word<'a>,
-    word: Word<'a>,
-    after: &'w [Word<'a>],
-    depth: u32,
-}
-
-// That a comma has nothing before it or after it.
-const LONE_COMMA: &str =
-    "A comma stands between two things: one is missing, or the comma is superfluous";
-
-// That a comma stands where a declaration ends.
-const LATE_COMMA: &str = "The comma before it may have to be a semicolon";
 
 // Whether a statement may begin after a word.
 fn is_boundary(kind: Kind) -> bool {
@@ -46,8 +28,8 @@ pub(crate) fn is_arithmetic(kind: Kind) -> bool {
     }
 }
 
-// Whether a mark stands between two values that are compared.
-fn is_relation(kind: Kind) -> bool {
+/// Whether a mark stands between two values that are compared.
+pub(crate) fn is_relation(kind: Kind) -> bool {
     match kind {
         Kind::Mark(
             Mark::EqualSign
@@ -72,8 +54,8 @@ pub(crate) fn comes_after_do(kind: Kind) -> bool {
     }
 }
 
-// Whether a value comes after a word.
-fn wants_value(kind: Kind) -> bool {
+/// Whether a value comes after a word.
+pub(crate) fn wants_value(kind: Kind) -> bool {
     match kind {
         Kind::Reserved(
             ReservedWord::And
@@ -102,8 +84,8 @@ pub(crate) fn awaits_value(kind: Kind) -> bool {
     }
 }
 
-// Whether a word comes after a whole value alone.
-fn ends_value(kind: Kind) -> bool {
+/// Whether a word comes after a whole value alone.
+pub(crate) fn ends_value(kind: Kind) -> bool {
     match kind {
         Kind::Mark(Mark::Semicolon | Mark::Comma | Mark::RightParenthesis)
         | Kind::Reserved(ReservedWord::Then | ReservedWord::To | ReservedWord::By) => true,
@@ -111,40 +93,50 @@ fn ends_value(kind: Kind) -> bool {
     }
 }
 
-// Whether a word is a type of one word.
-fn is_type(kind: Kind) -> bool {
+/// Whether a word is a type of one word.
+pub(crate) fn is_type(kind: Kind) -> bool {
     match kind {
         Kind::Reserved(ReservedWord::Address | ReservedWord::Byte) => true,
         _ => false,
     }
 }
 
-// Whether values in parentheses come after a word of a declaration.
-fn takes_values(kind: Kind) -> bool {
+/// Whether values in parentheses come after a word of a declaration.
+pub(crate) fn takes_values(kind: Kind) -> bool {
     match kind {
         Kind::Reserved(ReservedWord::At | ReservedWord::Data | ReservedWord::Initial) => true,
         _ => false,
     }
 }
 
-// Whether a word says that a name is shared.
-fn is_sharing(kind: Kind) -> bool {
+/// Whether words of a declaration have one that values in parentheses come after.
+pub(crate) fn has_values(words: &[Word]) -> bool {
+    for word in words {
+        if takes_values(word.kind) {
+            return true;
+        }
+    }
+    false
+}
+
+/// Whether a word says that a name is shared.
+pub(crate) fn is_sharing(kind: Kind) -> bool {
     match kind {
         Kind::Reserved(ReservedWord::External | ReservedWord::Public) => true,
         _ => false,
     }
 }
 
-// Whether a word comes after the type in an item of a declaration.
-fn follows_type(kind: Kind) -> bool {
+/// Whether a word comes after the type in an item of a declaration.
+pub(crate) fn follows_type(kind: Kind) -> bool {
     match kind {
         Kind::Mark(Mark::Comma | Mark::Semicolon) => true,
         _ => takes_values(kind) || is_sharing(kind),
     }
 }
 
-// Whether a statement begins with a word, in which no DECLARE goes on.
-fn begins_statement(kind: Kind) -> bool {
+/// Whether a statement begins with a word, in which no DECLARE goes on.
+pub(crate) fn begins_statement(kind: Kind) -> bool {
     match kind {
         Kind::Reserved(
             ReservedWord::Call
@@ -240,8 +232,8 @@ pub(crate) fn is_in_structure(words: &[Word]) -> bool {
     }
 }
 
-// Whether an item of a list is a variable: a name, with members and lists after it.
-fn is_variable(item: &[Word]) -> bool {
+/// Whether an item of a list is a variable: a name, with members and lists after it.
+pub(crate) fn is_variable(item: &[Word]) -> bool {
     let mut depth = 0_u32;
     for word in item {
         match word.kind {
@@ -258,8 +250,8 @@ fn is_variable(item: &[Word]) -> bool {
     }
 }
 
-// The words of the last item of a DECLARE: those after its last comma outside parentheses, or after DECLARE.
-fn item_of<'w, 'a>(declare: &'w [Word<'a>]) -> &'w [Word<'a>] {
+/// The words of the last item of a DECLARE: those after its last comma outside parentheses, or after DECLARE.
+pub(crate) fn item_of<'w, 'a>(declare: &'w [Word<'a>]) -> &'w [Word<'a>] {
     let mut depth = 0_u32;
     let mut start = 1;
     for (at, word) in declare.iter().enumerate() {
@@ -284,8 +276,8 @@ pub(crate) fn has_kind(words: &[Word], kind: Kind) -> bool {
     false
 }
 
-// Whether an item of a DECLARE has its type, or needs none.
-fn is_typed(item: &[Word]) -> bool {
+/// Whether an item of a DECLARE has its type, or needs none.
+pub(crate) fn is_typed(item: &[Word]) -> bool {
     for word in item {
         match word.kind {
             Kind::Reserved(
@@ -305,8 +297,8 @@ pub(crate) fn is_typed_item(declare: &[Word]) -> bool {
     is_typed(item_of(declare))
 }
 
-// Whether TO comes in words before the first semicolon.
-fn has_to(words: &[Word]) -> bool {
+/// Whether TO comes in words before the first semicolon.
+pub(crate) fn has_to(words: &[Word]) -> bool {
     for word in words {
         match word.kind {
             Kind::Reserved(ReservedWord::To) => return true,
@@ -317,8 +309,8 @@ fn has_to(words: &[Word]) -> bool {
     false
 }
 
-// Whether words have a comparison.
-fn has_relation(words: &[Word]) -> bool {
+/// Whether words have a comparison.
+pub(crate) fn has_relation(words: &[Word]) -> bool {
     for word in words {
         if is_relation(word.kind) {
             return true;
@@ -327,8 +319,8 @@ fn has_relation(words: &[Word]) -> bool {
     false
 }
 
-// Whether THEN comes in words before the first semicolon.
-fn has_then(words: &[Word]) -> bool {
+/// Whether THEN comes in words before the first semicolon.
+pub(crate) fn has_then(words: &[Word]) -> bool {
     for word in words {
         match word.kind {
             Kind::Reserved(ReservedWord::Then) => return true,
@@ -339,8 +331,8 @@ fn has_then(words: &[Word]) -> bool {
     false
 }
 
-// Whether words end with a name that they declare.
-fn ends_with_declared(words: &[Word]) -> bool {
+/// Whether words end with a name that they declare.
+pub(crate) fn ends_with_declared(words: &[Word]) -> bool {
     match words {
         [before @ .., last] => {
             last.kind == Kind::Name && awaited_after(before) == Some(Named::Object)
@@ -349,20 +341,20 @@ fn ends_with_declared(words: &[Word]) -> bool {
     }
 }
 
-// Whether a word comes right after another one, with no blank between.
-fn is_joined(first: &Word, second: &Word) -> bool {
+/// Whether a word comes right after another one, with no blank between.
+pub(crate) fn is_joined(first: &Word, second: &Word) -> bool {
     second.start == first.start.saturating_add(1)
 }
 
-// Whether two words are this mark and a slash, the second right after the first.
-fn are_joined(first: &Word, mark: Mark, second: &Word) -> bool {
+/// Whether two words are this mark and a slash, the second right after the first.
+pub(crate) fn are_joined(first: &Word, mark: Mark, second: &Word) -> bool {
     first.kind == Kind::Mark(mark)
         && second.kind == Kind::Mark(Mark::Slash)
         && is_joined(first, second)
 }
 
-// Whether words are a DO and a name, with no TO after it.
-fn is_do_of_name(statement: &[Word]) -> bool {
+/// Whether words are a DO and a name, with no TO after it.
+pub(crate) fn is_do_of_name(statement: &[Word]) -> bool {
     match statement {
         [first, name, ..] => {
             first.kind == Kind::Reserved(ReservedWord::Do)
@@ -407,393 +399,4 @@ pub(crate) fn is_reserved_name(last: &Word, word: &Word, next: Option<&Word>) ->
         && (ends_value(next.kind) || is_arithmetic(next.kind) || is_relation(next.kind));
     let is_member = last.kind == Kind::Mark(Mark::Period);
     is_like_name(word.kind) && (is_target || is_operand || is_member)
-}
-
-impl Spot<'_, '_> {
-    // Whether the statement begins with a word.
-    fn begins(&self, reserved: ReservedWord) -> bool {
-        match self.statement {
-            [first, ..] => first.kind == Kind::Reserved(reserved),
-            [] => false,
-        }
-    }
-
-    // Whether the statement begins with a name.
-    fn begins_with_name(&self) -> bool {
-        match self.statement {
-            [first, ..] => first.kind == Kind::Name,
-            [] => false,
-        }
-    }
-
-    // Whether the word before is this one.
-    fn is_after(&self, reserved: ReservedWord) -> bool {
-        self.last.kind == Kind::Reserved(reserved)
-    }
-
-    // Whether the word is PUBLIC.
-    fn is_public(&self) -> bool {
-        self.word.kind == Kind::Reserved(ReservedWord::Public)
-    }
-
-    // Whether the word is this mark.
-    fn is_mark(&self, mark: Mark) -> bool {
-        self.word.kind == Kind::Mark(mark)
-    }
-
-    // Whether the word after it is of this kind.
-    fn is_before(&self, kind: Kind) -> bool {
-        match self.after {
-            [_, next, ..] => next.kind == kind,
-            _ => false,
-        }
-    }
-
-    // Whether this mark and a slash stand here, joined.
-    fn is_at(&self, mark: Mark) -> bool {
-        match self.after {
-            [first, second, ..] => are_joined(first, mark, second),
-            _ => false,
-        }
-    }
-
-    // What is wrong with marks that are joined.
-    fn of_marks(&self) -> Option<&'static str> {
-        let is_turned = (self.is_mark(Mark::GreaterSign) || self.is_mark(Mark::LessSign))
-            && self.last.kind == Kind::Mark(Mark::EqualSign)
-            && is_joined(&self.last, &self.word);
-        if self.is_at(Mark::Slash) || are_joined(&self.last, Mark::Slash, &self.word) {
-            Some("A comment stands between /* and */")
-        } else if self.is_at(Mark::Asterisk) {
-            Some("No comment ends here: its /* is missing before it")
-        } else if is_turned {
-            Some("The = stands last: <= and >=")
-        } else {
-            None
-        }
-    }
-
-    // What is wrong with an assignment in an expression: that it is an item of a list after a name, which has its own parentheses.
-    fn of_assignment(&self) -> Option<&'static str> {
-        let list = open_list(self.statement);
-        let is_after_name = match self.statement.get(list.at.saturating_sub(1)) {
-            Some(before) => list.at > 0 && before.kind == Kind::Name,
-            None => false,
-        };
-        let is_code = !self.begins(ReservedWord::Declare) && !self.begins(ReservedWord::Procedure);
-        if self.is_mark(Mark::AssignSign)
-            && self.depth > 0
-            && is_code
-            && is_after_name
-            && is_variable(list.item)
-        {
-            Some(
-                "An assignment in an argument or in a subscript has parentheses of its own: V((I := 1)), as plm convert writes it",
-            )
-        } else {
-            None
-        }
-    }
-
-    // What is wrong with a number that has a fraction.
-    fn of_fraction(&self) -> Option<&'static str> {
-        match (self.last.kind, self.after) {
-            (Kind::Number(_), [point, digits, ..])
-                if point.kind == Kind::Mark(Mark::Period)
-                    && matches!(digits.kind, Kind::Number(_))
-                    && is_joined(point, digits) => {
-                Some("A number is whole, and has no point and no fraction")
-            }
-            _ => None,
-        }
-    }
-
-    // What is wrong with a colon before an equal sign.
-    fn of_equal_sign(&self) -> Option<&'static str> {
-        if self.is_mark(Mark::EqualSign) && self.last.kind == Kind::Mark(Mark::Colon) {
-            Some("An assignment has = alone; the mark := of an expression has no blank in it")
-        } else {
-            None
-        }
-    }
-
-    // What is wrong with a colon at the end of a statement.
-    fn of_colon(&self) -> Option<&'static str> {
-        let is_whole = self.depth == 0 && is_value(self.last.kind);
-        let is_assignment = self.begins_with_name()
-            && has_kind(self.statement, Kind::Mark(Mark::EqualSign));
-        if self.is_mark(Mark::Colon)
-            && is_whole
-            && (is_assignment || self.begins(ReservedWord::Call))
-        {
-            Some("A colon comes after a label alone, and a semicolon ends a statement")
-        } else {
-            None
-        }
-    }
-
-    // What is wrong with parentheses.
-    fn of_parentheses(&self) -> Option<&'static str> {
-        match self.word.kind {
-            Kind::Mark(Mark::RightParenthesis) if self.depth == 0 => {
-                Some("No ( is open here: one is missing, or this ) is superfluous")
-            }
-            Kind::Mark(Mark::Semicolon)
-            | Kind::Reserved(ReservedWord::Then | ReservedWord::To | ReservedWord::By)
-                if self.depth > 0 => { Some("A ) is missing before it") }
-            _ => None,
-        }
-    }
-
-    // What is wrong with a comma.
-    fn of_commas(&self) -> Option<&'static str> {
-        let is_after = self.last.kind == Kind::Mark(Mark::Comma);
-        let is_first = self.last.kind == Kind::Mark(Mark::LeftParenthesis);
-        match self.word.kind {
-            Kind::Mark(Mark::Comma) if is_after || is_first => Some(LONE_COMMA),
-            Kind::Mark(Mark::RightParenthesis | Mark::Semicolon) if is_after => Some(LONE_COMMA),
-            kind
-                if is_after
-                    && self.depth == 0
-                    && self.begins(ReservedWord::Declare)
-                    && begins_statement(kind) => { Some(LATE_COMMA) }
-            Kind::Mark(Mark::Comma)
-                if self.depth == 0
-                    && self.begins_with_name()
-                    && has_kind(self.statement, Kind::Mark(Mark::EqualSign)) => {
-                Some(
-                    "No comma here: A, B = 0 for one value, and a semicolon between two assignments",
-                )
-            }
-            _ => None,
-        }
-    }
-
-    // What is wrong with the type in a DECLARE, outside parentheses.
-    fn of_type(&self) -> Option<&'static str> {
-        let item = item_of(self.statement);
-        let is_first = self.is_after(ReservedWord::Declare)
-            || self.last.kind == Kind::Mark(Mark::Comma);
-        if is_first && is_type(self.word.kind) && self.is_before(Kind::Name) {
-            Some("The type stands after the name: DECLARE A BYTE")
-        } else if item.len() == 1 && self.last.kind == Kind::Name && self.is_mark(Mark::Comma) {
-            Some("Several names of one type stand in parentheses: DECLARE (A, B) BYTE")
-        } else if is_value(self.last.kind) && follows_type(self.word.kind) && !is_typed(item) {
-            Some("The type stands before it: BYTE, ADDRESS or STRUCTURE")
-        } else if is_type(self.last.kind) && self.is_mark(Mark::LeftParenthesis) {
-            Some("A dimension stands after the name, and values after INITIAL or DATA")
-        } else {
-            None
-        }
-    }
-
-    // What is wrong after the type in a DECLARE, outside parentheses.
-    fn of_values(&self) -> Option<&'static str> {
-        let is_closed = self.last.kind == Kind::Mark(Mark::RightParenthesis);
-        if is_closed && is_sharing(self.word.kind) {
-            Some("PUBLIC and EXTERNAL stand before AT, INITIAL and DATA")
-        } else if takes_values(self.last.kind) && !self.is_mark(Mark::LeftParenthesis) {
-            Some("What follows AT, INITIAL and DATA stands in parentheses")
-        } else if self.is_after(ReservedWord::Literally) {
-            Some("The text after LITERALLY stands between quotes")
-        } else if self.is_mark(Mark::EqualSign) && is_typed_item(self.statement) {
-            Some("A first value stands in parentheses after INITIAL: DECLARE A BYTE INITIAL (5)")
-        } else {
-            None
-        }
-    }
-
-    // What is wrong in a DECLARE.
-    fn of_declare(&self) -> Option<&'static str> {
-        if !self.begins(ReservedWord::Declare) {
-            None
-        } else if self.depth > 0 {
-            if is_type(self.word.kind) && ends_with_declared(self.statement) {
-                Some("In the parentheses stand names alone, and their type after the )")
-            } else {
-                None
-            }
-        } else if self.is_mark(Mark::Colon) && item_of(self.statement).len() == 1 {
-            Some(LATE_COMMA)
-        } else {
-            self.of_type().or(self.of_values())
-        }
-    }
-
-    // What is wrong in the heading of a procedure.
-    fn of_heading(&self) -> Option<&'static str> {
-        let is_late = is_sharing(self.last.kind) || self.is_after(ReservedWord::Reentrant);
-        if !self.begins(ReservedWord::Procedure) {
-            None
-        } else if is_type(self.word.kind) && ends_with_declared(self.statement) {
-            Some("The type of a parameter stands in a DECLARE after the heading")
-        } else if is_type(self.word.kind) && is_late {
-            Some("The type stands before PUBLIC, EXTERNAL and REENTRANT")
-        } else if is_type(self.last.kind) && self.is_mark(Mark::LeftParenthesis) {
-            Some("The parameters stand before the type: PROCEDURE (X) BYTE")
-        } else if self.is_after(ReservedWord::Reentrant) && self.is_public() {
-            Some("PUBLIC stands before REENTRANT")
-        } else {
-            None
-        }
-    }
-
-    // What is wrong before the word PROCEDURE.
-    fn of_procedure(&self) -> Option<&'static str> {
-        match self.statement {
-            _ if self.word.kind != Kind::Reserved(ReservedWord::Procedure) => None,
-            [] => Some("A procedure has its name and a colon before it: P: PROCEDURE"),
-            [name] if name.kind == Kind::Name => Some("A colon is missing before it"),
-            _ => None,
-        }
-    }
-
-    // What is wrong in an IF that has no THEN yet.
-    fn of_condition(&self) -> Option<&'static str> {
-        let is_whole = self.begins(ReservedWord::If) && self.depth == 0 && is_value(self.last.kind);
-        match self.word.kind {
-            Kind::Mark(Mark::Semicolon)
-                if is_whole && self.is_before(Kind::Reserved(ReservedWord::Then)) => {
-                Some("No semicolon stands before THEN")
-            }
-            Kind::Mark(Mark::Semicolon) if is_whole => Some("THEN may be missing before it"),
-            Kind::Name if is_whole && !has_then(self.after) => {
-                Some("THEN may be missing before it")
-            }
-            _ => None,
-        }
-    }
-
-    // Whether the statement is a DO and the name of its variable.
-    fn is_loop_variable(&self) -> bool {
-        self.statement.len() == 2 && self.last.kind == Kind::Name
-    }
-
-    // What is wrong in the head of a DO.
-    fn of_do(&self) -> Option<&'static str> {
-        match self.word.kind {
-            _ if !self.begins(ReservedWord::Do) => None,
-            Kind::Name if self.word.text.eq_ignore_ascii_case(b"STEP") => {
-                Some("BY stands before the step: DO I = 1 TO 10 BY 2")
-            }
-            Kind::Name
-                if is_value(self.last.kind) && self.word.text.eq_ignore_ascii_case(b"DOWNTO") => {
-                Some(
-                    "A DO counts up: in place of DOWNTO write a DO WHILE whose last statement counts down",
-                )
-            }
-            Kind::Mark(Mark::LeftParenthesis | Mark::Period)
-                if self.is_loop_variable() && has_to(self.after) => {
-                Some("The variable of a DO is a name alone, with no subscript and no member")
-            }
-            Kind::Reserved(ReservedWord::Do) if is_value(self.last.kind) => {
-                Some("The head of a DO ends with a semicolon, and has no second DO")
-            }
-            Kind::Mark(Mark::Comma)
-                if self.depth == 0
-                    && has_kind(self.statement, Kind::Mark(Mark::EqualSign))
-                    && is_do_of_name(self.statement) => {
-                Some("TO stands between the two bounds: DO I = 1 TO 10")
-            }
-            Kind::Mark(Mark::Semicolon) if is_do_of_name(self.statement) => {
-                Some("DO without TO, WHILE or CASE has its semicolon right after it")
-            }
-            _ => None,
-        }
-    }
-
-    // What is wrong at a word that begins a statement elsewhere, or cannot begin one.
-    fn of_beginning(&self) -> Option<&'static str> {
-        let is_inside = wants_value(self.last.kind)
-            || self.is_after(ReservedWord::Return)
-            || self.last.kind == Kind::Mark(Mark::LeftParenthesis);
-        match self.word.kind {
-            Kind::Reserved(ReservedWord::Call) if is_inside => {
-                Some("In an expression a procedure is called without CALL")
-            }
-            Kind::Reserved(ReservedWord::While) if self.statement.is_empty() => {
-                Some("DO stands before it: DO WHILE")
-            }
-            Kind::Reserved(ReservedWord::Case) if self.statement.is_empty() => {
-                Some("DO stands before it: DO CASE")
-            }
-            Kind::Reserved(_) if self.is_after(ReservedWord::End) => {
-                Some("After END stands its semicolon, or the name of a module or a procedure")
-            }
-            _ => None,
-        }
-    }
-
-    // What is wrong with the values of a statement.
-    fn of_value(&self) -> Option<&'static str> {
-        let has_equal = has_kind(self.statement, Kind::Mark(Mark::EqualSign));
-        let is_second = is_value(self.last.kind) && is_relation(self.word.kind);
-        if wants_value(self.last.kind) && ends_value(self.word.kind) {
-            Some("A value is missing before it")
-        } else if self.begins_with_name() && !has_equal && is_arithmetic(self.word.kind) {
-            Some("An assignment has its = right after the variable: A = A + 1")
-        } else if is_second && has_relation(self.statement) && !self.begins(ReservedWord::Declare) {
-            Some("A value is compared once: A < B AND B < C")
-        } else {
-            None
-        }
-    }
-
-    // What is wrong in a CALL.
-    fn of_call(&self) -> Option<&'static str> {
-        match (self.statement, self.word.kind) {
-            ([call, name, ..], Kind::Mark(Mark::Period))
-                if call.kind == Kind::Reserved(ReservedWord::Call)
-                    && name.kind == Kind::Name
-                    && self.depth == 0 => {
-                Some(
-                    "A CALL through a variable is left out: a DO CASE of calls, or ENTER of examples/mixed/README.md",
-                )
-            }
-            ([call, name], Kind::Number(_) | Kind::String)
-                if call.kind == Kind::Reserved(ReservedWord::Call) && name.kind == Kind::Name => {
-                Some("The arguments of a call stand in parentheses: CALL P(1)")
-            }
-            _ => None,
-        }
-    }
-}
-
-// A word that cannot stand where it stands: the first of the words `after`, which comes after `before`.
-fn spot_at<'w, 'a>(before: &'w [Word<'a>], after: &'w [Word<'a>]) -> Option<Spot<'w, 'a>> {
-    let ([.., last], [word, ..]) = (before, after) else {
-        return None;
-    };
-    let statement = statement_of(before);
-    Some(Spot {
-        statement,
-        last: *last,
-        word: *word,
-        after,
-        depth: depth_of(statement),
-    })
-}
-
-/// What is likely wrong at an assignment in an expression, where the first of the words `after` is its mark.
-pub(crate) fn said_of_assignment(before: &[Word], after: &[Word]) -> Option<&'static str> {
-    spot_at(before, after)?.of_assignment()
-}
-
-/// What is likely wrong at the first of the words `after`, which comes after `before`.
-pub(crate) fn said_at(before: &[Word], after: &[Word]) -> Option<&'static str> {
-    let spot = spot_at(before, after)?;
-    spot.of_marks()
-        .or(spot.of_fraction())
-        .or(spot.of_equal_sign())
-        .or(spot.of_colon())
-        .or(spot.of_parentheses())
-        .or(spot.of_commas())
-        .or(spot.of_declare())
-        .or(spot.of_heading())
-        .or(spot.of_procedure())
-        .or(spot.of_condition())
-        .or(spot.of_do())
-        .or(spot.of_beginning())
-        .or(spot.of_value())
-        .or(spot.of_call())
 }
